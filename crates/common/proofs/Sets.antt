@@ -1,0 +1,22 @@
+-- Sets of flags as masks and as sums of their members.
+use Prim.Native.Nat.{ℕ, _+_, _-_, _*_, _/_, _%_, _^_}
+use mathlib.Core.Path.{_≡_, refl, sym, ap, _∙_}
+use native.Mathlib.Omega.{arith}
+use lib.Bits.{bitAnd, and-mask, and-high}
+use Rattle.common.specs.Flags.{ofFive}
+
+-- the five page flags are bits 2 to 6: one bit after the other
+pub five : (f : ℕ) → bitAnd f 0x7c ≡ ofFive f
+five f = and-high f 5 2 ∙ omega (arith, a, b, c, d)
+  where
+    a : f / 4 % 32 ≡ f / 4 % 2 + f / 8 % 16 * 2
+    a = omega arith
+
+    b : f / 8 % 16 ≡ f / 8 % 2 + f / 16 % 8 * 2
+    b = omega arith
+
+    c : f / 16 % 8 ≡ f / 16 % 2 + f / 32 % 4 * 2
+    c = omega arith
+
+    d : f / 32 % 4 ≡ f / 32 % 2 + f / 64 % 2 * 2
+    d = omega arith

@@ -1,0 +1,49 @@
+-- Document 01, 'Numbers to meet': rows A1 to A6 and B1 to B6, one theorem.
+use Prim.Native.Nat.{ℕ, _+_}
+use mathlib.Core.Path.{_≡_, refl}
+use mathlib.Core.List.{List, [], _∷_}
+use Rattle.paging.specs.Level.{index}
+use Rattle.common.specs.Flags.{READ, WRITE, EXECUTE, USER}
+use Rattle.common.specs.Page.{isHuge}
+use Rattle.common.specs.declared.vm.PageSize.{PageSize}
+use Rattle.common.specs.declared.vm.PageSize.the-variants.{Size4K, Size2M, Size1G}
+use Rattle.x86_64.specs.Entry.{leafBy}
+
+-- the four indexes, from the root down
+abbrev pub indexes : ℕ → List ℕ
+indexes v = index 3 v ∷ index 2 v ∷ index 1 v ∷ index 0 v ∷ []
+
+-- a leaf of a size at a physical address, with these page flags
+abbrev pub word : PageSize → ℕ → ℕ → ℕ
+word s p f = leafBy (isHuge s) p f 0
+
+pub record RowsA : Type 0 where
+  pub a1 : indexes 0x200000 ≡ 0 ∷ 0 ∷ 1 ∷ 0 ∷ []
+  pub a2 : indexes 0x7ffffffff000 ≡ 255 ∷ 511 ∷ 511 ∷ 511 ∷ []
+  pub a3 : indexes 0xffffff0200000000 ≡ 510 ∷ 8 ∷ 0 ∷ 0 ∷ []
+  pub a4 : word Size4K 0x1000 (READ + WRITE + USER) ≡ 0x8000000000001207
+  pub a5 : word Size2M 0x200000 (READ + EXECUTE) ≡ 0x200281
+  pub a6 : word Size4K 0 0 ≡ 0x8000000000000200
+
+-- a leaf in a table: the address that it begins at, and its size
+pub data Leaf : Type 0 where
+  at : ℕ → PageSize → Leaf
+
+-- `taken leaves a e`: the frames that cutting [a, e) takes of a table with these leaves
+pub record RowsB (taken : List Leaf → ℕ → ℕ → ℕ) : Type 0 where
+  pub b1 : taken (at 0x40000000 Size2M ∷ []) 0x40001000 0x40002000 ≡ 1
+  pub b2 : taken (at 0x40000000 Size1G ∷ []) 0x40001000 0x40002000 ≡ 2
+  pub b3 : taken (at 0x40000000 Size1G ∷ []) 0x40200000 0x40400000 ≡ 1
+  pub b4 : taken (at 0x40000000 Size1G ∷ []) 0x40001000 0x40201000 ≡ 3
+  pub b5 : taken (at 0x40000000 Size1G ∷ at 0x80000000 Size1G ∷ []) 0x40001000 0x80001000 ≡ 4
+  pub b6-all : taken (at 0x40000000 Size1G ∷ []) 0x40000000 0x80000000 ≡ 0
+  pub b6-none : (a : ℕ) → taken (at 0x40000000 Size1G ∷ []) a a ≡ 0
+
+-- the whole table, for a count of frames taken
+pub record Numbers (taken : List Leaf → ℕ → ℕ → ℕ) : Type 0 where
+  pub rowsA : RowsA
+  pub rowsB : RowsB taken
+
+-- A1 to A6 hold; B1 to B6 are stated, and are proved where a cut is.
+pub rows-a : RowsA
+rows-a = record { a1 = refl; a2 = refl; a3 = refl; a4 = refl; a5 = refl; a6 = refl }

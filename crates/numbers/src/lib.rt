@@ -1,0 +1,1 @@
+// Document 01's numbers to meet: definitions and one theorem only.

@@ -1,0 +1,38 @@
+-- The case splits on numbers and tests that proofs make.
+use Prim.Native.Nat.{ℕ, _≤_, _<_}
+use mathlib.Core.Path.{_≡_, refl}
+use mathlib.Core.Bool.{Bool, true, false, _&&_}
+use mathlib.Core.Logic.{_⊎_, inl, inr, ⊎-elim}
+use native.Mathlib.Omega.{arith}
+use lib.Dec.{eqb, ltb}
+use borrow.Author.Tests.{eqb-true, eqb-false, ltb-true, ltb-false}
+
+pub same? : (a b : ℕ) → (a ≡ b) ⊎ (a ≡ b → ⊥)
+same? a b = go (eqb a b) refl
+  where
+    go : (t : Bool) → eqb a b ≡ t → (a ≡ b) ⊎ (a ≡ b → ⊥)
+    go true e = inl (eqb-true a b e)
+    go false e = inr (eqb-false a b e)
+
+pub below? : (a b : ℕ) → (a < b) ⊎ (b ≤ a)
+below? a b = go (ltb a b) refl
+  where
+    go : (t : Bool) → ltb a b ≡ t → (a < b) ⊎ (b ≤ a)
+    go true e = inl (ltb-true a b e)
+    go false e = inr (ltb-false a b e)
+
+-- no test says both
+pub no-truth : {A : Type 0} → false ≡ true → A
+no-truth p = let z : _≡_ {A = ℕ} 0 1 = cc in absurd (omega arith)
+
+-- both parts of a test that holds
+pub both : (a b : Bool) → a && b ≡ true → (a ≡ true) × (b ≡ true)
+both true b e = (refl, e)
+both false b e = no-truth e
+
+-- what is none of 0, 1 and 2 is above them
+pub above-two : (l : ℕ) → (l ≡ 0 → ⊥) → (l ≡ 1 → ⊥) → (l ≡ 2 → ⊥) → 2 < l
+above-two l a b c = ⊎-elim (λ h. absurd (go h)) (λ h. h) (below? l 3)
+  where
+    go : l < 3 → ⊥
+    go h = ⊎-elim a (λ n. ⊎-elim b (λ m. c (omega arith)) (same? l 1)) (same? l 0)

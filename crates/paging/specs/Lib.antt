@@ -1,0 +1,3 @@
+pub mod Choice
+pub mod Level
+pub mod Format

@@ -1,0 +1,1 @@
+// The theory that every table layer stands on: definitions and theorems only.

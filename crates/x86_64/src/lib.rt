@@ -1,0 +1,2 @@
+// kernel-hal/src/bare/arch/x86_64.
+pub mod vm;
