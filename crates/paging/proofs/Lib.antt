@@ -1,3 +1,4 @@
 pub mod Cases
 pub mod Levels
 pub mod Formats
+pub mod Walks

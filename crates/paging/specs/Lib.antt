@@ -1,3 +1,5 @@
 pub mod Choice
 pub mod Level
 pub mod Format
+pub mod Table
+pub mod Way

@@ -1,0 +1,1 @@
+// Whether a lent pool is one that calls work on.
