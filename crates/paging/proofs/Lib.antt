@@ -2,3 +2,4 @@ pub mod Cases
 pub mod Levels
 pub mod Formats
 pub mod Walks
+pub mod Changes
