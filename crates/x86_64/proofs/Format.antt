@@ -5,13 +5,13 @@ use mathlib.Core.Bool.{Bool, true, false, _&&_}
 use native.Mathlib.Omega.{arith}
 use native.Mathlib.Nat.{div-add-mod'}
 use lib.Dec.{eqb, ltb, leb, lit≤}
-use borrow.Author.Tests.{eq-eqb, ne-eqb, le-leb, lt-leb, lt-ltb, leb-true, ltb-true}
+use borrow.Author.Tests.{eq-eqb, ne-eqb, le-leb, lt-leb, lt-ltb, leb-true, ltb-true, eqb-true, eqb-false}
 use Rattle.paging.specs.Choice.{pick, Decided}
 use Rattle.paging.specs.Level.{span}
 use Rattle.paging.specs.Format.{Kind, nothing, leaf, table, Format, LeafReads, Lawful, Entry, written, Formats}
 use Rattle.paging.proofs.Cases.{both}
 use Rattle.paging.proofs.Levels.{page-of}
-use Rattle.paging.proofs.Formats.{formats}
+use Rattle.paging.proofs.Formats.{Is, is, formats}
 use Rattle.common.specs.Flags.{WRITE, EXECUTE, USER, has}
 use Rattle.common.specs.Page.{levelOf, aligned, isHuge}
 use Rattle.common.specs.declared.vm.PageSize.{PageSize}
@@ -34,7 +34,7 @@ use Rattle.x86_64.specs.Entry.{
 use Rattle.x86_64.proofs.Words.{addr-lt, marks-lt, table-parts, LeafParts, leaf-word, leaf-flags, again}
 
 -- a word by its tests
-pub kind-leaf : (l w : ℕ) → 0 < w → bit 9 w ≡ 1 → l ≤ 2 → kindAt l w ≡ leaf
+kind-leaf : (l w : ℕ) → 0 < w → bit 9 w ≡ 1 → l ≤ 2 → kindAt l w ≡ leaf
 kind-leaf l w u b h = rw (ne-eqb w 0 (λ e. omega arith), eq-eqb (bit 9 w) 1 b, le-leb l 2 h)
 
 kind-table : (l w : ℕ) → 0 < w → bit 9 w ≡ 0 → 0 < l → l ≤ 3 → kindAt l w ≡ table (frameOf w)
@@ -103,6 +103,34 @@ lawful = record {
 
 pub x86-formats : Formats x86
 x86-formats = formats x86 lawful
+
+-- what an entry is, by its tests
+pub leaf-entry : (l w : ℕ) → Entry x86 l w → isLeaf w ≡ true → x86 .kind l w ≡ leaf
+unfolding x86
+leaf-entry l w x b = go (leb l 2) refl
+  where
+    used : isUnused w ≡ false
+    used = ne-eqb w 0 (λ e. omega (arith, eqb-true (bit 9 w) 1 b))
+
+    go : (d : Bool) → leb l 2 ≡ d → kindAt l w ≡ leaf
+    go true e = rw (used, b, e)
+    go false e =
+        let k : kindAt l w ≡ nothing = rw (used, b, e) in
+        absurd (eqb-false w 0 used (subst (Is x86 lawful l w) k (is x86 lawful l w x)))
+
+pub unused-entry : (l w : ℕ) → isUnused w ≡ true → x86 .kind l w ≡ nothing
+unfolding x86
+unused-entry l w u = rw u
+
+pub table-entry : (l w : ℕ) → Entry x86 l w → isUnused w ≡ false → isLeaf w ≡ false → x86 .kind l w ≡ table (frameOf w)
+unfolding x86
+table-entry l w x u b = go (ltb 0 l && leb l 3) refl
+  where
+    go : (d : Bool) → ltb 0 l && leb l 3 ≡ d → kindAt l w ≡ table (frameOf w)
+    go true e = rw (u, b, e)
+    go false e =
+        let k : kindAt l w ≡ nothing = rw (u, b, e) in
+        absurd (eqb-false w 0 u (subst (Is x86 lawful l w) k (is x86 lawful l w x)))
 
 -- The answer of `is_entry` by its tests: each way the word can go, and what `written` computes there.
 pub decides : (l w : ℕ) {r : Bool} → written x86 l w ≡ r → Decided (Entry x86 l w) r

@@ -17,7 +17,7 @@ use Rattle.common.proofs.Pages.{size-span, level-le}
 use Rattle.x86_64.specs.Entry.{bit, frameOf, addrOf, marksOf, flagsOf, isUnused, isLeaf, anyRight, granted, leafBy, tableWord, kindAt, x86}
 use Rattle.x86_64.specs.ReadBack.{ShowsLeaf, ShowsTable, ReadBack}
 use Rattle.x86_64.proofs.Words.{table-parts, leaf-word, leaf-flags, with-marks}
-use Rattle.x86_64.proofs.Format.{kind-leaf, lawful, x86-formats}
+use Rattle.x86_64.proofs.Format.{lawful, x86-formats, leaf-entry, table-entry}
 
 -- bit 7 marks the sizes above the lowest level
 pub huge-level : (s : PageSize) → ltb 0 (levelOf s) ≡ isHuge s
@@ -63,22 +63,13 @@ given f k o = five-given f (has READ f) (has WRITE f) (has EXECUTE f) (has USER 
 leaf-again : (s : PageSize) (w : ℕ) → Entry x86 (levelOf s) w → isLeaf w ≡ true → leafBy (isHuge s) (addrOf w) (flagsOf w) 0 + marksOf w * 2 ^ 5 ≡ w
 unfolding x86
 leaf-again s w x b =
-    let o : bit 9 w ≡ 1 = eqb-true (bit 9 w) 1 b in
     with-marks (isHuge s) (addrOf w) (flagsOf w) (marksOf w) (marksOf w * 2 ^ 5) refl
     ∙ ap (λ (h : Bool). leafBy h (addrOf w) (flagsOf w) (marksOf w)) (sym (huge-level s))
-    ∙ x86-formats .leaf-again (levelOf s) w x (kind-leaf (levelOf s) w (omega arith) o (level-le s))
+    ∙ x86-formats .leaf-again (levelOf s) w x (leaf-entry (levelOf s) w x b)
 
 table-again : (l w : ℕ) → Entry x86 l w → isUnused w ≡ false → isLeaf w ≡ false → tableWord (frameOf w) 0 + marksOf w * 2 ^ 5 ≡ w
 unfolding x86
-table-again l w x u b = go (ltb 0 l && leb l 3) refl
-  where
-    go : (d : Bool) → ltb 0 l && leb l 3 ≡ d → tableWord (frameOf w) 0 + marksOf w * 2 ^ 5 ≡ w
-    go true e =
-        let k : kindAt l w ≡ table (frameOf w) = rw (u, b, e) in
-        omega (arith, x86-formats .table-again l w (frameOf w) x k)
-    go false e =
-        let k : kindAt l w ≡ nothing = rw (u, b, e) in
-        absurd (eqb-false w 0 u (subst (Is x86 lawful l w) k (is x86 lawful l w x)))
+table-again l w x u b = omega (arith, x86-formats .table-again l w (frameOf w) x (table-entry l w x u b))
 
 pub read-back : ReadBack
 read-back = record {
