@@ -21,6 +21,11 @@ level-le Size4K = omega arith
 level-le Size2M = omega arith
 level-le Size1G = omega arith
 
+pub size-le : (s : PageSize) → sizeOf s ≤ 2 ^ 30
+size-le Size4K = omega arith
+size-le Size2M = omega arith
+size-le Size1G = omega arith
+
 pub size-pos : (s : PageSize) → 0 < sizeOf s
 size-pos s = rw (size-span s) (pow-pos (12 + 9 * levelOf s))
 
