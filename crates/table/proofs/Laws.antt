@@ -23,18 +23,6 @@ use Rattle.table.specs.declared.UpdateResult.the-variants as update
 use Rattle.table.specs.declared.NewAddr.{NewAddr}
 use Rattle.table.specs.declared.NewFlags.{NewFlags}
 
--- an entry that the walk found stands in the pool
-module _ (p : List ℕ) (base used v : ℕ) (G : Good p base used) where
-  pub leaf-in : (e : LeafEntry) → found p (base / 4096) v ≡ Leaf e → (e .frame * 512 + 512 ≤ length p) × (e .place < 512)
-  leaf-in e q =
-      let o = over p (base / 4096) used (G .formed) v e q in
-      (omega (arith, o .placed .taken, G .sized .there), rw (o .placed .at) (index-lt (o .l) v))
-
-  pub open-in : (o : OpenEntry) → found p (base / 4096) v ≡ Open o → (o .frame * 512 + 512 ≤ length p) × (o .place < 512)
-  open-in o q =
-      let u = unused p (base / 4096) used (G .formed) v o q in
-      (omega (arith, u .placed .taken, G .sized .there), rw (u .placed .at) (index-lt (o .level) v))
-
 -- what the calls are where the walk found a leaf
 module _ (p : List ℕ) (b v : ℕ) (e : LeafEntry) (q : found p b v ≡ Leaf e) where
   pub shown : queried p b v ≡ query.Page (addrOf (word p (e .frame) (e .place)) + v % sizeOf (e .size)) (record { 0 = flagsOf (word p (e .frame) (e .place)) }) (e .size)

@@ -1,9 +1,13 @@
 // kernel-hal/src/utils/page_table.rs: `query`, `unmap`, `update` and `map` on a well-formed table. Nothing here tests the table or the
 // arguments: crate page_table does, and calls these.
-use common::defs::{MMUFlags, PhysAddr, VirtAddr};
+use common::defs::MMUFlags;
+use common::defs::PhysAddr;
+use common::defs::VirtAddr;
 use common::vm::PageSize;
 use refusal::Refusal;
-use walk::{LeafEntry, OpenEntry, Walk};
+use walk::LeafEntry;
+use walk::OpenEntry;
+use walk::Walk;
 use x86_64::vm::X86PTE;
 ghost use mathlib.Core.Path.{_≡_};
 ghost use Prim.Native.Nat.{_+_, _-_, _*_, _/_, _%_, _^_, _≤_, _<_};
@@ -54,11 +58,7 @@ pub fn query(pool: &[u64], base: u64, used: usize, vaddr: VirtAddr) -> QueryResu
     let place = leaf.place;
     let size = leaf.size;
     let entry = X86PTE(pool::entry_at(pool, frame, place));
-    QueryResult::Page(
-        entry.addr() + size.page_offset(vaddr),
-        entry.flags(),
-        size,
-    )
+    QueryResult::Page(entry.addr() + size.page_offset(vaddr), entry.flags(), size)
 }
 
 pub fn unmap(pool: &mut [u64], base: u64, used: usize, vaddr: VirtAddr) -> UnmapResult

@@ -4,6 +4,7 @@ use mathlib.Core.Path.{_≡_, refl, sym, ap, _∙_, subst}
 use mathlib.Core.Bool.{Bool, true, false}
 use mathlib.Core.List.{List}
 use native.Mathlib.Omega.{arith}
+use lib.ListN.{length}
 use borrow.Author.Tests.{eqb-true}
 use Rattle.paging.specs.Choice.{pick}
 use Rattle.paging.specs.Level.{index}
@@ -15,7 +16,7 @@ use Rattle.paging.proofs.Changes.{End, end}
 use Rattle.x86_64.specs.Entry.{frameOf, isUnused, isLeaf, x86}
 use Rattle.x86_64.proofs.Format.{lawful, leaf-entry, table-entry}
 use Rattle.pool.specs.Pool.{word, memOf, Taken}
-use Rattle.form.specs.Form.{WellFormed}
+use Rattle.form.specs.Form.{WellFormed, Good}
 use Rattle.walk.specs.Walk.{sizeAt, foundAt, found}
 use Rattle.walk.specs.declared.Walk.{Walk}
 use Rattle.walk.specs.declared.Walk.the-variants.{Leaf, Open}
@@ -86,3 +87,15 @@ module _ (p : List ℕ) (b used : ℕ) (T : WellFormed p b used) (v : ℕ) where
 
   pub unused : (o : OpenEntry) → found p b v ≡ Open o → Unused o
   unused o q = subst Answer q answer
+
+-- an entry that the walk found stands in the pool
+module _ (p : List ℕ) (base used v : ℕ) (G : Good p base used) where
+  pub leaf-in : (e : LeafEntry) → found p (base / 4096) v ≡ Leaf e → (e .frame * 512 + 512 ≤ length p) × (e .place < 512)
+  leaf-in e q =
+      let o = over p (base / 4096) used (G .formed) v e q in
+      (omega (arith, o .placed .taken, G .sized .there), rw (o .placed .at) (index-lt (o .l) v))
+
+  pub open-in : (o : OpenEntry) → found p (base / 4096) v ≡ Open o → (o .frame * 512 + 512 ≤ length p) × (o .place < 512)
+  open-in o q =
+      let u = unused p (base / 4096) used (G .formed) v o q in
+      (omega (arith, u .placed .taken, G .sized .there), rw (u .placed .at) (index-lt (o .level) v))

@@ -20,7 +20,7 @@ is-aligned-requires : tie.Need-is-aligned-requires
 is-aligned-requires c κs = search needs
 
 returns : tie.Need-returns
-returns c = 
+returns c =
     let k = c .before .before .before in
     let a = k .before .before .args in
     let q = sym (c .before .is-aligned .ensures) ∙ not-true _ (c .if1 .taken) in
@@ -36,7 +36,7 @@ enum-told : tie.Need-enum-told
 enum-told c = search needs
 
 returns-2 : tie.Need-returns-2
-returns-2 c = 
+returns-2 c =
     let k = c .before .before .before .before in
     let a = k .before .before .args in
     let q = sym (c .before .before .is-aligned .ensures) ∙ not-false _ (c .before .if1 .left) in

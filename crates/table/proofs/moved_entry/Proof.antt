@@ -16,7 +16,7 @@ enum-told : tie.Need-enum-told
 enum-told c = search needs
 
 returns : tie.Need-returns
-returns c = 
+returns c =
     let k = c .before .before in
     let a = k .before .before .args in
     c .set-addr .ensures ∙ sym (ap (newAddr (a .entry .0)) (k .paddr .given .1))

@@ -25,7 +25,7 @@ enum-told : tie.Need-enum-told
 enum-told c = search needs
 
 returns : tie.Need-returns
-returns c = 
+returns c =
     let k = c .before .before .before in
     let m = k .before .before .moved-entry in
     let a = k .before .before .before .args in
@@ -35,7 +35,7 @@ returns c =
     ∙ sym (ap (newWord (a .entry .0) (a .size) (a .paddr)) (k .flags .given .1))
 
 returns-2 : tie.Need-returns-2
-returns-2 c = 
+returns-2 c =
     let m = c .before .before .moved-entry in
     let a = c .before .before .before .args in
     m .ensures ∙ sym (ap (newWord (a .entry .0) (a .size) (a .paddr)) (c .enum-told .given .1))

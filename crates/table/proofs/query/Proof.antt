@@ -16,7 +16,8 @@ use Rattle.walk.specs.Walk.{found}
 use Rattle.walk.specs.declared.Walk.the-variants.{Leaf, Open}
 use Rattle.table.specs.Table.{queried}
 use Rattle.table.specs.declared.QueryResult.the-variants.{Page}
-use Rattle.table.proofs.Laws.{leaf-in, shown}
+use Rattle.walk.proofs.Found.{leaf-in}
+use Rattle.table.proofs.Laws.{shown}
 use Rattle.table.proofs.query.Statement.{statement}
 use Rattle.table.proofs.query.Tie as tie
 
@@ -36,13 +37,13 @@ enum-told : tie.Need-enum-told
 enum-told c = search needs
 
 returns : tie.Need-returns
-returns c = 
+returns c =
     let a = c .before .before .before .before .args in
     let q : found (now (a .pool)) (a .base / 4096) (a .vaddr) ≡ Open (c .enum-told .given .0 .0) = sym (c .before .before .get-entry .ensures) ∙ c .enum-told .given .1 in
     rw q
 
 entry-at-requires : tie.Need-entry-at-requires
-entry-at-requires c κs = 
+entry-at-requires c κs =
     let o = c .before .before .before .before .before in
     leaf-in (now (o .args .pool)) (o .args .base) (o .args .used) (o .args .vaddr) (o .pre) (c .before .leaf .given .0 .0) (seen c)
 
@@ -53,7 +54,7 @@ page-offset-requires : tie.Need-page-offset-requires
 page-offset-requires c κs = search needs
 
 add-t14 : tie.Need-add-t14
-add-t14 c = 
+add-t14 c =
     let k = c .before .before .before in
     let s = k .before .leaf .given .0 .0 .size in
     omega (arith, c .before .addr .ensures, addr-lt (c .before .before .entry-at .result), c .page-offset .ensures, mod-lt (k .before .before .before .before .before .args .vaddr) (size-pos s), size-le s)
@@ -62,7 +63,7 @@ flags-requires : tie.Need-flags-requires
 flags-requires c κs = search needs
 
 returns-2 : tie.Need-returns-2
-returns-2 c = 
+returns-2 c =
     let k = c .before .before .before .before in
     let a = k .before .before .before .before .before .args in
     let e = k .before .leaf .given .0 .0 in

@@ -12,7 +12,8 @@ use Rattle.walk.specs.Walk.{found}
 use Rattle.walk.specs.declared.Walk.the-variants.{Leaf, Open}
 use Rattle.table.specs.Table.{unmapped, Unmapping}
 use Rattle.table.specs.declared.UnmapResult.the-variants.{Unmapped}
-use Rattle.table.proofs.Laws.{leaf-in, gone}
+use Rattle.walk.proofs.Found.{leaf-in}
+use Rattle.table.proofs.Laws.{gone}
 use Rattle.table.proofs.unmap.Statement.{statement}
 use Rattle.table.proofs.unmap.Tie as tie
 
@@ -35,18 +36,18 @@ same-length : tie.Need-same-length
 same-length c = search needs
 
 returns : tie.Need-returns
-returns c = 
+returns c =
     let a = c .before .before .before .before .before .args in
     let q : found (now (a .pool)) (a .base / 4096) (a .vaddr) ≡ Open (c .enum-told .given .0 .0) = sym (c .before .before .get-entry .ensures) ∙ c .enum-told .given .1 in
     rw q
 
 entry-at-requires : tie.Need-entry-at-requires
-entry-at-requires c κs = 
+entry-at-requires c κs =
     let o = c .before .before .before .before .before .before .before in
     leaf-in (now (o .args .pool)) (o .args .base) (o .args .used) (o .args .vaddr) (o .pre) (c .before .before .leaf .given .0 .0) (seen (c .before))
 
 set-entry-requires : tie.Need-set-entry-requires
-set-entry-requires c κs = 
+set-entry-requires c κs =
     let k = c .before .before .before in
     let o = k .before .before .before .before .before .before in
     leaf-in (now (o .args .pool)) (o .args .base) (o .args .used) (o .args .vaddr) (o .pre) (k .before .leaf .given .0 .0) (seen k)
@@ -58,7 +59,7 @@ same-length-2 : tie.Need-same-length-2
 same-length-2 c = search needs
 
 returns-2 : tie.Need-returns-2
-returns-2 c = 
+returns-2 c =
     let s = c .before .before .before in
     let r = s .before .before in
     let k = r .before .before in

@@ -13,7 +13,8 @@ use Rattle.walk.specs.declared.Walk.the-variants.{Leaf, Open}
 use mathlib.Core.Bool.{true, false}
 use Rattle.table.specs.Table.{misplaced, newWord, updated, Updating}
 use Rattle.table.specs.declared.UpdateResult.the-variants.{Updated}
-use Rattle.table.proofs.Laws.{leaf-in, refused-address, rewritten}
+use Rattle.walk.proofs.Found.{leaf-in}
+use Rattle.table.proofs.Laws.{refused-address, rewritten}
 use Rattle.table.proofs.update.Statement.{statement}
 use Rattle.table.proofs.update.Tie as tie
 
@@ -36,7 +37,7 @@ same-length : tie.Need-same-length
 same-length c = search needs
 
 returns : tie.Need-returns
-returns c = 
+returns c =
     let a = c .before .before .before .before .before .args in
     let q : found (now (a .pool)) (a .base / 4096) (a .vaddr) ≡ Open (c .enum-told .given .0 .0) = sym (c .before .before .get-entry .ensures) ∙ c .enum-told .given .1 in
     rw q
@@ -48,13 +49,13 @@ same-length-2 : tie.Need-same-length-2
 same-length-2 c = search needs
 
 returns-2 : tie.Need-returns-2
-returns-2 c = 
+returns-2 c =
     let k = c .before .before in
     let a = k .before .before .before .before .before .before .args in
     sym (refused-address (now (a .pool)) (a .base / 4096) (a .vaddr) (k .before .leaf .given .0 .0) (seen k) (a .paddr) (a .flags) (sym (c .before .is-misplaced .ensures) ∙ c .if1 .taken))
 
 entry-at-requires : tie.Need-entry-at-requires
-entry-at-requires c κs = 
+entry-at-requires c κs =
     let k = c .before .before .before in
     let o = k .before .before .before .before .before .before in
     leaf-in (now (o .args .pool)) (o .args .base) (o .args .used) (o .args .vaddr) (o .pre) (k .before .leaf .given .0 .0) (seen k)
@@ -63,7 +64,7 @@ new-entry-requires : tie.Need-new-entry-requires
 new-entry-requires c κs = search needs
 
 set-entry-requires : tie.Need-set-entry-requires
-set-entry-requires c κs = 
+set-entry-requires c κs =
     let k = c .before .before .before .before .before .before in
     let o = k .before .before .before .before .before .before in
     leaf-in (now (o .args .pool)) (o .args .base) (o .args .used) (o .args .vaddr) (o .pre) (k .before .leaf .given .0 .0) (seen k)
@@ -72,7 +73,7 @@ same-length-3 : tie.Need-same-length-3
 same-length-3 c = search needs
 
 returns-3 : tie.Need-returns-3
-returns-3 c = 
+returns-3 c =
     let s = c .before .before in
     let n = s .before in
     let r = n .before .before in
