@@ -5,9 +5,10 @@ use mathlib.Core.List.{List}
 use native.Mathlib.Omega.{arith}
 use native.Mathlib.Nat.{not-suc-le-zero}
 use native.Mathlib.Numerals.{sub-one}
-use lib.ListN.{length, length-set, length-append, length-take, length-drop, length-replicate}
+use lib.ListN.{length, length-set}
 use Rattle.paging.proofs.Levels.{index-lt}
-use Rattle.pool.specs.Pool.{putWord, zeroed}
+use Rattle.pool.specs.Pool.{putWord}
+use Rattle.pool.proofs.Memory.{zeroed-length}
 use Rattle.walk.specs.declared.OpenEntry.{OpenEntry}
 use borrow.Author.Tests.{lt-ltb, le-ltb}
 use Rattle.common.specs.Page.{levelOf}
@@ -27,9 +28,6 @@ pub fill-more : (n : ℕ) (p : List ℕ) (b u v : ℕ) (o : OpenEntry) (w : ℕ)
 unfolding filled
 fill-more zero p b u v o w h = absurd (not-suc-le-zero h)
 fill-more (suc n) p b u v o w h = rw sub-one
-
-pub zeroed-length : (p : List ℕ) (i : ℕ) → i * 512 + 512 ≤ length p → length (zeroed p i) ≡ length p
-zeroed-length p i h = simp (length-append, length-take, length-drop, length-replicate) (omega arith)
 
 pub grown-length : (p : List ℕ) (b u : ℕ) (o : OpenEntry) → u * 512 + 512 ≤ length p → length (grown p b u o) ≡ length p
 grown-length p b u o h = simp length-set (zeroed-length p u h)

@@ -1,0 +1,3 @@
+pub mod Intel
+pub mod Rules
+pub mod Agrees
