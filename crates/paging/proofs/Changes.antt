@@ -164,14 +164,19 @@ module _ (F : Format) (W W′ : ℕ → ℕ → ℕ) (In : ℕ → Type 0) (root
     inside bar =
         ap (seen W′) (ends-at F W′ root v (E .l) (E .n) (E .low) way-new (rw here bar)) ∙ ap (λ (z : ℕ). view (E .l) (W′ (E .n) z)) here
 
-    -- an address in the span of an entry that became the table u sees its own entry there, where that is no table
-    pub grown : (m u : ℕ) → E .l ≡ suc m → F .kind (suc m) (W′ (E .n) (index (E .l) x)) ≡ table u → NoTable (F .kind m (W′ u (index m v))) → shows F W′ root v ≡ view m (W′ u (index m v))
+    -- an address in the span of an entry that became the table u ends at its own entry there, where that is no table
+    pub grown-walk : (m u : ℕ) → E .l ≡ suc m → F .kind (suc m) (W′ (E .n) (index (E .l) x)) ≡ table u → NoTable (F .kind m (W′ u (index m v)))
+        → walk F W′ (F .top) root v ≡ hit m u (index m v)
+    grown-walk m u hl tab last =
+        let tb : F .kind (F .top - (F .top - E .l)) (W′ (E .n) (index (F .top - (F .top - E .l)) v)) ≡ table u = rw (back, here, hl) (rw hl at tab) in
+        let at : way F W′ root v (F .top - m) ≡ some u =
+        ap (way F W′ root v) (omega (arith, E .low)) ∙ on F W′ root v (F .top - E .l) (E .n) u way-new tb in
+        ends-at F W′ root v m u (omega (arith, E .low)) at last
+
+    pub grown : (m u : ℕ) → E .l ≡ suc m → F .kind (suc m) (W′ (E .n) (index (E .l) x)) ≡ table u → NoTable (F .kind m (W′ u (index m v)))
+        → shows F W′ root v ≡ view m (W′ u (index m v))
     unfolding shows
-    grown m u hl tab last =
-        let tb : F .kind (F .top - (F .top - E .l)) (W′ (E .n) (index (F .top - (F .top - E .l)) v)) ≡ table u =
-        rw (back, here, hl) (rw hl at tab) in
-        let at : way F W′ root v (F .top - m) ≡ some u = ap (way F W′ root v) (omega (arith, E .low)) ∙ on F W′ root v (F .top - E .l) (E .n) u way-new tb in
-        ap (seen W′) (ends-at F W′ root v m u (omega (arith, E .low)) at last)
+    grown m u hl tab last = ap (seen W′) (grown-walk m u hl tab last)
 
   at-place? : (n k : ℕ) → ((n ≡ E .n) × (k ≡ index (E .l) x)) ⊎ ((n ≡ E .n) × (k ≡ index (E .l) x) → ⊥)
   at-place? n k = ⊎-elim (λ a. ⊎-elim (λ b. inl (a, b)) (λ nb. inr (λ w. nb (w .1))) (same? k (index (E .l) x))) (λ na. inr (λ w. na (w .0))) (same? n (E .n))

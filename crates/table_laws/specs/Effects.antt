@@ -9,6 +9,7 @@ use Rattle.paging.specs.Level.{span, Canonical}
 use Rattle.paging.specs.Format.{leaf}
 use Rattle.paging.specs.Table.{View, view, shows, Translation, to, nowhere, translates}
 use Rattle.common.specs.Page.{levelOf, sizeOf}
+use Rattle.common.specs.declared.defs.MMUFlags.{MMUFlags}
 use Rattle.common.specs.declared.vm.PageSize.{PageSize}
 use Rattle.x86_64.specs.Entry.{addrOf, x86}
 use Rattle.pool.specs.Pool.{memOf}
@@ -46,7 +47,7 @@ pub record Adds (p p′ : List ℕ) (base used′ v t w : ℕ) : Type 0 where
 -- For every well-formed table and every address of the two halves:
 pub record Effects (p : List ℕ) (base used v : ℕ) : Type 0 where
   -- query answers what the address translates to, and refuses exactly where that is nothing
-  pub queries : (a : ℕ) (f s : _) → queried p (base / 4096) v ≡ query.Page a f s → translatesIn p base v ≡ to a (f .0)
+  pub queries : (a : ℕ) (f : MMUFlags) (s : PageSize) → queried p (base / 4096) v ≡ query.Page a f s → translatesIn p base v ≡ to a (f .0)
   pub queries-not : queried p (base / 4096) v ≡ query.Refused NotMapped → translatesIn p base v ≡ nowhere
   -- unmap empties the leaf's entry, and answers the leaf's own address
   pub unmaps : (a : ℕ) (s : PageSize) → unmapped p (base / 4096) v .result ≡ unmap.Unmapped a s

@@ -1,0 +1,4 @@
+pub mod Writes
+pub mod Grows
+pub mod Leaves
+pub mod Effects
