@@ -1,11 +1,12 @@
 -- The case splits on numbers and tests that proofs make.
 use Prim.Native.Nat.{ℕ, _≤_, _<_}
-use mathlib.Core.Path.{_≡_, refl}
+use mathlib.Core.Path.{_≡_, refl, sym, _∙_, subst}
 use mathlib.Core.Bool.{Bool, true, false, _&&_}
 use mathlib.Core.Logic.{_⊎_, inl, inr, ⊎-elim}
 use native.Mathlib.Omega.{arith}
 use lib.Dec.{eqb, ltb}
 use borrow.Author.Tests.{eqb-true, eqb-false, ltb-true, ltb-false}
+use Rattle.paging.specs.Choice.{Decided, Answered, refused, taken}
 
 pub same? : (a b : ℕ) → (a ≡ b) ⊎ (a ≡ b → ⊥)
 same? a b = go (eqb a b) refl
@@ -36,3 +37,17 @@ above-two l a b c = ⊎-elim (λ h. absurd (go h)) (λ h. h) (below? l 3)
   where
     go : l < 3 → ⊥
     go h = ⊎-elim a (λ n. ⊎-elim b (λ m. c (omega arith)) (same? l 1)) (same? l 0)
+
+-- what a test that decides P has shown
+pub decided-true : (P : Type 0) (r : Bool) → Decided P r → r ≡ true → P
+decided-true P r d e = subst (Decided P) e d
+
+pub decided-false : (P : Type 0) (r : Bool) → Decided P r → r ≡ false → P → ⊥
+decided-false P r d e = subst (Decided P) e d
+
+-- two answers to one call are the same
+pub only : {A : Type 0} {P : Type 0} {no′ yes′ a b : A} → Answered P no′ yes′ a → Answered P no′ yes′ b → a ≡ b
+only (refused n e) (refused m f) = e ∙ sym f
+only (refused n e) (taken p f) = absurd (n p)
+only (taken p e) (refused n f) = absurd (n p)
+only (taken p e) (taken q f) = e ∙ sym f
