@@ -1,15 +1,16 @@
 -- Reading the answers of tests.
 use Prim.Native.Nat.{ℕ, _/_, _≤_}
-use mathlib.Core.Path.{_≡_, refl, subst}
+use mathlib.Core.Path.{_≡_, refl, sym, subst}
 use mathlib.Core.Bool.{Bool, true, false, not}
 use mathlib.Core.List.{List}
 use native.Mathlib.Omega.{arith}
 use lib.Dec.{leb}
 use lib.ListN.{length}
-use borrow.Author.Tests.{leb-true, leb-false, not-true, not-false}
+use borrow.Author.Tests.{leb-true, leb-false}
 use Rattle.paging.specs.Choice.{Decided}
+use Rattle.paging.proofs.Cases.{no-truth}
 use Rattle.form.specs.Form.{WellFormed, Sized, Good}
-use Rattle.form.specs.Sweep.{Sweep, Swept}
+use Rattle.form.specs.Sweep.{Sweep, Swept, goes, stops}
 
 pub holds : (P : Type 0) (r : Bool) → r ≡ true → Decided P r → P
 holds P r e d = subst (λ (t : Bool). Decided P t) e d
@@ -25,14 +26,16 @@ by-le P a b to from = go (leb a b) refl
     go false e = λ x. absurd (omega (arith, from x, leb-false a b e))
 
 -- a part of the sweep that passed, and one that did not
-module _ (p : List ℕ) (b used : ℕ) (at : List ℕ) (r n : ℕ) (ok : Bool) where
-  pub passed : not ok ≡ false → Swept p b used at r n ok → Sweep p b used at r n
-  passed e s = subst (Swept p b used at r n) (not-false ok e) s
+pub passed : {p : List ℕ} {b used : ℕ} {at : List ℕ} {r n : ℕ} {ok : Bool} → not ok ≡ false → Swept p b used at r n ok → Sweep p b used at r n
+passed e (goes s) = s
+passed e (stops f) = no-truth (sym e)
 
-  pub refused : not ok ≡ true → Swept p b used at r n ok → WellFormed p b used → ⊥
-  refused e s = subst (Swept p b used at r n) (not-true ok e) s
+pub refused : {p : List ℕ} {b used : ℕ} {at : List ℕ} {r n : ℕ} {ok : Bool} → not ok ≡ true → Swept p b used at r n ok → WellFormed p b used → ⊥
+refused e (goes s) = no-truth e
+refused e (stops f) = f
 
 -- of a pool whose sizes are right the form decides
-pub by-form : (p : List ℕ) (base used : ℕ) (r : Bool) → Sized (length p) base used → Decided (WellFormed p (base / 4096) used) r → Decided (Good p base used) r
+pub by-form : (p : List ℕ) (base used : ℕ) (r : Bool) → Sized (length p) base used → Decided (WellFormed p (base / 4096) used) r
+    → Decided (Good p base used) r
 by-form p base used true s d = record { sized = s; formed = d }
 by-form p base used false s d = λ g. d (g .formed)

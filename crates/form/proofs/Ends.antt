@@ -1,26 +1,28 @@
 -- The answer when every rank has had its turn.
-use Prim.Native.Nat.{ℕ, zero, suc, _+_, _-_, _*_, _≤_, _<_}
-use mathlib.Core.Path.{_≡_, refl, sym, ap, _∙_, subst}
-use mathlib.Core.Logic.{_⊎_, ⊎-elim}
+use Prim.Native.Nat.{ℕ, zero, suc, _+_, _-_, _≤_, _<_}
+use mathlib.Core.Path.{_≡_, sym, ap, _∙_, subst}
+use mathlib.Core.Logic.{⊎-elim}
 use mathlib.Core.List.{List}
 use mathlib.Core.Bool.{Bool, true, false}
 use native.Mathlib.Omega.{arith}
 use lib.ListN.{getD}
 use Rattle.paging.specs.Choice.{Decided}
-use Rattle.paging.specs.Format.{Kind, table, Format, Lawful, Entry}
-use Rattle.paging.specs.Table.{Formed}
+use Rattle.paging.specs.Format.{table}
 use Rattle.paging.proofs.Cases.{same?}
 use Rattle.x86_64.specs.Entry.{x86}
 use Rattle.x86_64.proofs.Format.{lawful}
 use Rattle.pool.specs.Pool.{word, memOf, Taken}
 use Rattle.form.specs.Form.{WellFormed}
-use Rattle.form.specs.Sweep.{Read, Child, Sweep, AllReached}
-use Rattle.form.proofs.Steps.{in-form, top-is}
+use Rattle.form.specs.Sweep.{Read, Sweep, AllReached}
+use Rattle.form.proofs.Steps.{top-is}
 
 module _ (p : List ℕ) (b used : ℕ) (at : List ℕ) (S : Sweep p b used at 0 0) where
   -- every word of a reached frame has been read
   all-read : (g j : ℕ) → 0 < getD at g 0 → Read at 0 0 g j
   all-read g j h = record { high = omega arith; before = λ e. absurd (omega arith) }
+
+  ranked-as : (g h : ℕ) → g ≡ h → 0 < getD at h 0 → 0 < getD at g 0
+  ranked-as g h e r = subst (λ (y : ℕ). 0 < getD at y 0) (sym e) r
 
   -- every frame reached: the ranks are the levels
   module _ (u0 : 0 < used) (all : AllReached at used) where
@@ -76,11 +78,14 @@ module _ (p : List ℕ) (b used : ℕ) (at : List ℕ) (S : Sweep p b used at 0 
 
   -- In a well-formed pool every frame is reached, from one whose level is higher: d is the number of levels that may be climbed.
   module _ (F : WellFormed p b used) where
+    abbrev Reached : ℕ → ℕ → Type 0
+    Reached d g = 4 ≤ F .lev (b + g) + d → 0 < getD at g 0
+
     reach-root : (g : ℕ) → g ≡ 0 → 0 < getD at g 0
     reach-root g e = omega (arith, ap (λ (y : ℕ). getD at y 0) e, S .root)
 
     -- the frame that g is reached from has been read, if it was reached
-    reach-by : (g : ℕ) → g < used → (g ≡ 0 → ⊥) → (F .lev (b + g) < 3) × ((d : ℕ) → ((h : ℕ) → h < used → 4 ≤ F .lev (b + h) + d → 0 < getD at h 0) → 4 ≤ F .lev (b + g) + suc d → 0 < getD at g 0)
+    reach-by : (g : ℕ) → g < used → (g ≡ 0 → ⊥) → (F .lev (b + g) < 3) × ((d : ℕ) → ((h : ℕ) → h < used → Reached d h) → Reached (suc d) g)
     reach-by g hg ne =
         let u = F .up (b + g) (omega arith, omega arith) (λ q. ne (omega arith)) in
         let n = F .parN (b + g) in
@@ -95,12 +100,12 @@ module _ (p : List ℕ) (b used : ℕ) (at : List ℕ) (S : Sweep p b used at 0 
               let i : 0 < getD at (n - b) 0 = ih (n - b) hn (omega (arith, x .2)) in
               let le : getD at (n - b) 0 ≡ suc (F .lev n) = S .forced F (n - b) hn i ∙ ap suc ln in
               let ll : F .lev n ≡ getD at (n - b) 0 - 1 = omega arith in
-              let c = S .down (n - b) k (b + g) hn (u .1) (all-read (n - b) k i) (subst (λ (y : ℕ). x86 .kind y (word p (n - b) k) ≡ table (b + g)) ll (u .2)) in
-              let gh : g ≡ c .h = omega (arith, c .is) in
-              omega (arith, ap (λ (y : ℕ). getD at y 0) gh, c .ranked),
+              let t : x86 .kind (getD at (n - b) 0 - 1) (word p (n - b) k) ≡ table (b + g) = subst (λ (y : ℕ). x86 .kind y (word p (n - b) k) ≡ table (b + g)) ll (u .2) in
+              let c = S .down (n - b) k (b + g) hn (u .1) (all-read (n - b) k i) t in
+              ranked-as g (c .h) (omega (arith, c .is)) (c .ranked),
         )
 
-    reach : (d g : ℕ) → g < used → 4 ≤ F .lev (b + g) + d → 0 < getD at g 0
+    reach : (d g : ℕ) → g < used → Reached d g
     reach zero g hg h = ⊎-elim (reach-root g) (λ (ne : g ≡ 0 → ⊥). absurd (omega (arith, reach-by g hg ne .0))) (same? g 0)
     reach (suc d) g hg h = ⊎-elim (reach-root g) (λ (ne : g ≡ 0 → ⊥). reach-by g hg ne .1 d (reach d) h) (same? g 0)
 

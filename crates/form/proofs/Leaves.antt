@@ -1,20 +1,19 @@
 -- What the comparison tells is a leaf of its level: every bit that the mask has is as the rules write it, and the others are free.
-use Prim.Native.Nat.{ℕ, zero, suc, _+_, _-_, _*_, _/_, _%_, _^_, _≤_, _<_, min}
-use mathlib.Core.Path.{_≡_, refl, sym, ap, _∙_, subst}
+use Prim.Native.Nat.{ℕ, _+_, _-_, _*_, _/_, _%_, _^_, _≤_, _<_, min}
+use mathlib.Core.Path.{_≡_, refl, sym, ap, _∙_}
 use mathlib.Core.Logic.{_⊎_, inl, inr, ⊎-elim}
-use mathlib.Core.Bool.{Bool, true, false, _||_}
+use mathlib.Core.Bool.{true}
 use native.Mathlib.Omega.{arith}
 use native.Mathlib.Nat.{mod-lt, mod-mod}
-use lib.Dec.{eqb, ltb, lit<, lit≤}
+use lib.Dec.{ltb, lit<, lit≤}
 use lib.Bits.{bitAnd, and-shr, and-mod, and-mask, and-zero-r}
-use borrow.Author.Tests.{eq-eqb, eqb-true, eqb-false}
-use Rattle.common.specs.Flags.{READ, WRITE, EXECUTE, USER, has}
+use borrow.Author.Tests.{eq-eqb}
 use Rattle.paging.specs.Level.{span}
-use Rattle.paging.specs.Format.{Format, Entry, page}
-use Rattle.paging.proofs.Cases.{no-truth}
-use Rattle.x86_64.specs.Entry.{bit, frameOf, addrOf, marksOf, flagsOf, rights, anyRight, hugeBit, leafBy, isLeaf, x86}
+use Rattle.paging.specs.Format.{Entry, page}
+use Rattle.paging.proofs.Cases.{same?}
+use Rattle.x86_64.specs.Entry.{bit, frameOf, addrOf, marksOf, flagsOf, rights, hugeBit, isLeaf, x86}
 use Rattle.x86_64.proofs.Words.{addr-lt, marks-lt, FlagParts, flag-parts}
-use Rattle.form.specs.Sure.{Sure, told}
+use Rattle.form.specs.Sure.{Told, Sure}
 
 -- where the mask has all j bits from k up, they are the word's
 field : (w mask k j : ℕ) → mask / 2 ^ k % 2 ^ j ≡ 2 ^ j - 1 → bitAnd w mask / 2 ^ k % 2 ^ j ≡ w / 2 ^ k % 2 ^ j
@@ -74,7 +73,8 @@ rights-again : (w : ℕ) → Agree w → rights (flagsOf w) ≡ bit 0 w + bit 1 
 rights-again w a =
     let g : FlagParts (flagsOf w) (bit 0 w) (bit 1 w) (1 - bit 63 w) (bit 2 w) =
     flag-parts (flagsOf w) (bit 0 w) (bit 1 w) (1 - bit 63 w) (bit 2 w) (bit-lt 0 w) (bit-lt 1 w) (omega arith) (bit-lt 2 w) refl in
-    rw (g .read, g .write, g .execute, g .user, any-right (bit 0 w) (bit 1 w) (bit 63 w) (bit-lt 0 w) (bit-lt 1 w) (bit-lt 63 w) a, not-not (bit 63 w) (bit-lt 63 w))
+    let r = any-right (bit 0 w) (bit 1 w) (bit 63 w) (bit-lt 0 w) (bit-lt 1 w) (bit-lt 63 w) a in
+    rw (g .read, g .write, g .execute, g .user, r, not-not (bit 63 w) (bit-lt 63 w))
 
 -- a word by its fields: h is bit 7
 module _ (w h : ℕ) (hw : w < 2 ^ 64) (hh : h < 2) (agree : Agree w) (low : w / 2 ^ 3 % 2 ^ 2 ≡ 0) (kind : w / 2 ^ 7 % 2 ^ 5 ≡ 4 + h)
@@ -102,78 +102,65 @@ module _ (w h : ℕ) (hw : w < 2 ^ 64) (hh : h < 2) (agree : Agree w) (low : w /
     is-leaf,
   )
 
+-- bit 63 is all that is left above
+pub top-lt : (w : ℕ) → w < 2 ^ 64 → w / 2 ^ 63 < 2
+top-lt w hw = omega arith
+
+one-of : (q : ℕ) → q < 2 → (q ≡ 0 → ⊥) → q % 2 ≡ 1
+one-of q h ne = omega arith
+
+sum-zero : (x y : ℕ) → x ≡ 0 → y ≡ 0 → x * 2 + y ≡ 0
+sum-zero x y p q = omega arith
+
+fourth : (w : ℕ) → w % 2 ≡ 0 → (w % 4 ≡ 2 → ⊥) → w % 4 ≡ 0
+fourth w e ne = omega arith
+
+second : (w : ℕ) → w % 4 ≡ 0 → bit 1 w ≡ 0
+second w e = omega arith
+
+first : (w : ℕ) → (w % 2 ≡ 0 → ⊥) → bit 0 w ≡ 1
+first w ne = omega arith
+
+agrees : (w : ℕ) → w < 2 ^ 64 → (w % 4 ≡ 2 → ⊥) → (w % 4 * 2 + w / 2 ^ 63 ≡ 0 → ⊥) → Agree w
+agrees w hw a b = ⊎-elim even (λ (e : w % 2 ≡ 0 → ⊥). inl (first w e)) (same? (w % 2) 0)
+  where
+    even : w % 2 ≡ 0 → Agree w
+    even e =
+        let z : w % 4 ≡ 0 = fourth w e a in
+        inr (second w z, one-of (w / 2 ^ 63) (top-lt w hw) (λ y. b (sum-zero (w % 4) (w / 2 ^ 63) z y)))
+
 -- of the mask and the tag only numerals are left to compute
-module _ (w mask tag : ℕ) (e : bitAnd w mask ≡ tag) where
+module _ (w mask tag : ℕ) (hw : w < 2 ^ 64) (t : Told mask tag w) where
   by-field : (k j : ℕ) → mask / 2 ^ k % 2 ^ j ≡ 2 ^ j - 1 → w / 2 ^ k % 2 ^ j ≡ tag / 2 ^ k % 2 ^ j
-  by-field k j f = sym (field w mask k j f) ∙ ap (λ (x : ℕ). x / 2 ^ k % 2 ^ j) e
+  by-field k j f = sym (field w mask k j f) ∙ ap (λ (x : ℕ). x / 2 ^ k % 2 ^ j) (t .bits)
 
-bare : (w : ℕ) → w / 2 ^ 0 % 2 ^ 2 ≡ 0 → w / 2 ^ 63 % 2 ^ 1 ≡ 1 → Agree w
-bare w a b = inr (omega arith, b)
+  sure-of : (h l : ℕ) → h < 2 → w / 2 ^ 3 % 2 ^ 2 ≡ 0 → w / 2 ^ 7 % 2 ^ 5 ≡ 4 + h → w / 2 ^ 52 % 2 ^ 11 ≡ 0
+      → l ≤ 2 → addrOf w % span l ≡ 0 → h * 128 ≡ hugeBit (ltb 0 l) → Entry x86 l w × (isLeaf w ≡ true)
+  sure-of h l hh low kind high = leaf-of w h hw hh (agrees w hw (t .write) (t .execute)) low kind high l
 
-pub sure-4k : Sure 0 0x7ff0000000000f99 0x201
+pub sure-4k : Sure 0 0x7ff0000000000f98 0x200
 sure-4k = record {
-  leaves = λ w hw e.
-      let f = by-field w 0x7ff0000000000f99 0x201 e in
-      leaf-of w 0 hw (lit< tt) (inl (f 0 1 refl)) (f 3 2 refl) (f 7 5 refl) (f 52 11 refl) 0 (lit≤ tt) (omega arith) refl;
+  leaves = λ w hw t.
+      let f = by-field w 0x7ff0000000000f98 0x200 hw t in
+      sure-of w 0x7ff0000000000f98 0x200 hw t 0 0 (lit< tt) (f 3 2 refl) (f 7 5 refl) (f 52 11 refl) (lit≤ tt) (omega arith) refl;
 }
 
-pub bare-4k : Sure 0 0xfff0000000000f9b 0x8000000000000200
-bare-4k = record {
-  leaves = λ w hw e.
-      let f = by-field w 0xfff0000000000f9b 0x8000000000000200 e in
-      leaf-of w 0 hw (lit< tt) (bare w (f 0 2 refl) (f 63 1 refl)) (f 3 2 refl) (f 7 5 refl) (f 52 11 refl) 0 (lit≤ tt) (omega arith) refl;
-}
-
-pub sure-2m : Sure 1 0x7ff00000001fff99 0x281
+pub sure-2m : Sure 1 0x7ff00000001fff98 0x280
 sure-2m = record {
-  leaves = λ w hw e.
-      let f = by-field w 0x7ff00000001fff99 0x281 e in
+  leaves = λ w hw t.
+      let f = by-field w 0x7ff00000001fff98 0x280 hw t in
       let al : w / 2 ^ 12 % 2 ^ 9 ≡ 0 = f 12 9 refl in
-      leaf-of w 1 hw (lit< tt) (inl (f 0 1 refl)) (f 3 2 refl) (f 7 5 refl) (f 52 11 refl) 1 (lit≤ tt) (omega arith) refl;
+      sure-of w 0x7ff00000001fff98 0x280 hw t 1 1 (lit< tt) (f 3 2 refl) (f 7 5 refl) (f 52 11 refl) (lit≤ tt) (omega arith) refl;
 }
 
-pub bare-2m : Sure 1 0xfff00000001fff9b 0x8000000000000280
-bare-2m = record {
-  leaves = λ w hw e.
-      let f = by-field w 0xfff00000001fff9b 0x8000000000000280 e in
-      let al : w / 2 ^ 12 % 2 ^ 9 ≡ 0 = f 12 9 refl in
-      leaf-of w 1 hw (lit< tt) (bare w (f 0 2 refl) (f 63 1 refl)) (f 3 2 refl) (f 7 5 refl) (f 52 11 refl) 1 (lit≤ tt) (omega arith) refl;
-}
-
-pub sure-1g : Sure 2 0x7ff000003fffff99 0x281
+pub sure-1g : Sure 2 0x7ff000003fffff98 0x280
 sure-1g = record {
-  leaves = λ w hw e.
-      let f = by-field w 0x7ff000003fffff99 0x281 e in
+  leaves = λ w hw t.
+      let f = by-field w 0x7ff000003fffff98 0x280 hw t in
       let al : w / 2 ^ 12 % 2 ^ 18 ≡ 0 = f 12 18 refl in
-      leaf-of w 1 hw (lit< tt) (inl (f 0 1 refl)) (f 3 2 refl) (f 7 5 refl) (f 52 11 refl) 2 (lit≤ tt) (omega arith) refl;
-}
-
-pub bare-1g : Sure 2 0xfff000003fffff9b 0x8000000000000280
-bare-1g = record {
-  leaves = λ w hw e.
-      let f = by-field w 0xfff000003fffff9b 0x8000000000000280 e in
-      let al : w / 2 ^ 12 % 2 ^ 18 ≡ 0 = f 12 18 refl in
-      leaf-of w 1 hw (lit< tt) (bare w (f 0 2 refl) (f 63 1 refl)) (f 3 2 refl) (f 7 5 refl) (f 52 11 refl) 2 (lit≤ tt) (omega arith) refl;
+      sure-of w 0x7ff000003fffff98 0x280 hw t 1 2 (lit< tt) (f 3 2 refl) (f 7 5 refl) (f 52 11 refl) (lit≤ tt) (omega arith) refl;
 }
 
 -- nothing passes
 pub sure-none : (l : ℕ) → Sure l 0 1
-sure-none l = record { leaves = λ w hw e. absurd (omega (arith, and-zero-r w)) }
-
--- what the comparisons tell, and that what they leave is not 0
-pub told-cases : (m t n s w : ℕ) → told m t n s w ≡ true → (w ≡ 0) ⊎ ((bitAnd w m ≡ t) ⊎ (bitAnd w n ≡ s))
-told-cases m t n s w = go (eqb w 0) refl (eqb (bitAnd w m) t) refl (eqb (bitAnd w n) s) refl
-  where
-    go : (a : Bool) → eqb w 0 ≡ a → (b : Bool) → eqb (bitAnd w m) t ≡ b → (c : Bool) → eqb (bitAnd w n) s ≡ c
-        → (a || b) || c ≡ true → (w ≡ 0) ⊎ ((bitAnd w m ≡ t) ⊎ (bitAnd w n ≡ s))
-    go true p b q c r e = inl (eqb-true w 0 p)
-    go false p true q c r e = inr (inl (eqb-true (bitAnd w m) t q))
-    go false p false q true r e = inr (inr (eqb-true (bitAnd w n) s r))
-    go false p false q false r e = no-truth e
-
-pub told-zero : (m t n s w : ℕ) → told m t n s w ≡ false → 0 < w
-told-zero m t n s w = go (eqb w 0) refl (eqb (bitAnd w m) t) (eqb (bitAnd w n) s)
-  where
-    go : (a : Bool) → eqb w 0 ≡ a → (b c : Bool) → (a || b) || c ≡ false → 0 < w
-    go true p b c e = no-truth (sym e)
-    go false p b c e = let ne : w ≡ 0 → ⊥ = eqb-false w 0 p in omega arith
+sure-none l = record { leaves = λ w hw t. absurd (omega (arith, t .bits, and-zero-r w)) }

@@ -3,25 +3,24 @@ use Prim.Native.Nat.{ℕ, suc, _+_, _-_, _*_, _≤_, _<_}
 use mathlib.Core.Path.{_≡_, refl, sym, ap, _∙_, subst}
 use mathlib.Core.Logic.{_⊎_, ⊎-elim}
 use mathlib.Core.List.{List}
-use mathlib.Core.Bool.{Bool, true, false}
+use mathlib.Core.Bool.{Bool}
 use native.Mathlib.Omega.{arith}
-use lib.ListN.{getD, set}
+use lib.ListN.{getD}
 use lib.Seq.{getD-set-other}
-use Rattle.paging.specs.Format.{Kind, table, Format, Entry}
-use Rattle.paging.specs.Table.{Formed}
+use Rattle.paging.specs.Format.{table, Entry}
 use Rattle.x86_64.specs.Entry.{x86}
-use Rattle.pool.specs.Pool.{word, memOf, Taken}
+use Rattle.pool.specs.Pool.{word, Taken}
 use Rattle.form.specs.Form.{WellFormed}
-use Rattle.form.specs.Sweep.{Read, Sweep, Swept, Step, plain, ranks, foreign, outside, again}
+use Rattle.form.specs.Sweep.{Sweep, Swept, goes, stops, Step, plain, ranks, foreign, outside, again}
 use Rattle.form.proofs.Steps.{in-form, plain-step, ranks-step}
 
 -- a ranked frame keeps its rank
-pub rank-stays : (b used r w f : ℕ) (at new : List ℕ) (ok : Bool) → 0 < getD at f 0 → Step b used r w at new ok → getD new f 0 ≡ getD at f 0
-rank-stays b used r w f at _ _ i (plain x nt) = refl
-rank-stays b used r w f at _ _ i (ranks h x t h0 hu z) = getD-set-other at h f (r - 1) 0 (λ q. omega (arith, ap (λ (y : ℕ). getD at y 0) q))
-rank-stays b used r w f at _ _ i (foreign nt) = refl
-rank-stays b used r w f at _ _ i (outside m t o) = refl
-rank-stays b used r w f at _ _ i (again h t h0 hu nz) = refl
+pub rank-stays : (f : ℕ) {b used r w : ℕ} {at new : List ℕ} {ok : Bool} → 0 < getD at f 0 → Step b used r w at new ok → getD new f 0 ≡ getD at f 0
+rank-stays f i (plain x nt) = refl
+rank-stays f {r = r} {at = at} i (ranks h x t h0 hu z) = getD-set-other at h f (r - 1) 0 (λ q. omega (arith, ap (λ (y : ℕ). getD at y 0) q))
+rank-stays f i (foreign nt) = refl
+rank-stays f i (outside m t o) = refl
+rank-stays f i (again h t h0 hu nz) = refl
 
 module _ (p : List ℕ) (b used : ℕ) (at : List ℕ) (r f k : ℕ) (S : Sweep p b used at r (f * 512 + k)) (hf : f < used) (hk : k < 512)
     (e : getD at f 0 ≡ r) (pos : 0 < r) where
@@ -58,15 +57,16 @@ module _ (p : List ℕ) (b used : ℕ) (at : List ℕ) (r f k : ℕ) (S : Sweep 
       let jk : S .parK h ≡ k = sym (d .4) ∙ c .4 in
       omega (arith, u .2 .before (ap (λ (y : ℕ). getD at y 0) nf ∙ e))
 
-  pub stepped : (w : ℕ) (new : List ℕ) (ok : Bool) → used ≤ 1024 → w ≡ word p f k → Step b used r w at new ok → Swept p b used new r (f * 512 + (k + 1)) ok
+  pub stepped : (w : ℕ) (new : List ℕ) (ok : Bool) → used ≤ 1024 → w ≡ word p f k → Step b used r w at new ok
+      → Swept p b used new r (f * 512 + (k + 1)) ok
   stepped w new ok few q s = subst (λ (i : ℕ). Swept p b used new r i ok) on (go new ok (subst (λ (i : ℕ). Step b used r i at new ok) q s))
     where
       on : f * 512 + k + 1 ≡ f * 512 + (k + 1)
       on = omega arith
 
       go : (new : List ℕ) (ok : Bool) → Step b used r (word p f k) at new ok → Swept p b used new r (f * 512 + k + 1) ok
-      go _ _ (plain x nt) = plain-step p b used at r f k S hf hk e x nt
-      go _ _ (ranks h x t h0 hu z) = ranks-step p b used at r f k S hf hk e h x t h0 hu few z
-      go _ _ (foreign nt) = bad-foreign nt
-      go _ _ (outside m t o) = bad-outside m t o
-      go _ _ (again h t h0 hu nz) = bad-again h t h0 hu nz
+      go _ _ (plain x nt) = goes (plain-step p b used at r f k S hf hk e x nt)
+      go _ _ (ranks h x t h0 hu z) = goes (ranks-step p b used at r f k S hf hk e h x t h0 hu few z)
+      go _ _ (foreign nt) = stops (bad-foreign nt)
+      go _ _ (outside m t o) = stops (bad-outside m t o)
+      go _ _ (again h t h0 hu nz) = stops (bad-again h t h0 hu nz)

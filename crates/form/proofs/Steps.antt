@@ -1,21 +1,19 @@
 -- What each step of the sweep keeps: the start, a frame of another rank, a word that reaches nothing, a table, the next rank.
 use Prim.Native.Nat.{ℕ, zero, suc, _+_, _-_, _*_, _≤_, _<_}
 use mathlib.Core.Path.{_≡_, refl, sym, ap, _∙_, subst}
-use mathlib.Core.Logic.{_⊎_, inl, inr, ⊎-elim}
+use mathlib.Core.Logic.{⊎-elim}
 use mathlib.Core.List.{List}
-use mathlib.Core.Bool.{Bool, true, false}
 use native.Mathlib.Omega.{arith}
 use lib.Dec.{eqb}
-use lib.ListN.{length, getD, set, replicate, length-set, length-replicate}
+use lib.ListN.{getD, set, replicate, length-set, length-replicate}
 use lib.Seq.{getD-set-same, getD-set-other}
 use borrow.Author.Tests.{eq-eqb, ne-eqb}
 use Rattle.paging.specs.Choice.{pick}
-use Rattle.paging.specs.Format.{Kind, table, Format, Lawful, Entry}
-use Rattle.paging.specs.Table.{Formed}
+use Rattle.paging.specs.Format.{table, Entry}
 use Rattle.paging.proofs.Cases.{same?}
 use Rattle.x86_64.specs.Entry.{x86}
 use Rattle.x86_64.proofs.Format.{lawful}
-use Rattle.pool.specs.Pool.{word, memOf, Taken}
+use Rattle.pool.specs.Pool.{word, memOf}
 use Rattle.form.specs.Form.{WellFormed}
 use Rattle.form.specs.Sweep.{Read, Child, Sweep}
 use Rattle.form.proofs.Words.{table-inj}
@@ -106,8 +104,11 @@ module _ (p : List ℕ) (b used : ℕ) where
 
     -- a frame of another rank waits, or has been read
     pub skip-frame : (r f : ℕ) → (getD at f 0 ≡ r → ⊥) → Sweep p b used at r (f * 512) → Sweep p b used at r (f * 512 + 512)
-    skip-frame r f ne = moved r (f * 512) r (f * 512 + 512) back (λ g j hg hj R. record { high = R .high; before = λ e. omega (arith, R .before e) })
+    skip-frame r f ne = moved r (f * 512) r (f * 512 + 512) back fwd
       where
+        fwd : (g j : ℕ) → g < used → j < 512 → Read at r (f * 512) g j → Read at r (f * 512 + 512) g j
+        fwd g j hg hj R = record { high = R .high; before = λ e. omega (arith, R .before e) }
+
         back : (g j : ℕ) → g < used → j < 512 → Read at r (f * 512 + 512) g j → Read at r (f * 512) g j
         back g j hg hj R = record { high = R .high; before = before }
           where
@@ -165,7 +166,8 @@ module _ (p : List ℕ) (b used : ℕ) where
           (same? (g * 512 + j) (f * 512 + k))
 
       -- a word that reaches nothing
-      pub plain-step : Entry x86 (r - 1) (word p f k) → ((m : ℕ) → x86 .kind (r - 1) (word p f k) ≡ table m → ⊥) → Sweep p b used at r (f * 512 + k + 1)
+      pub plain-step : Entry x86 (r - 1) (word p f k) → ((m : ℕ) → x86 .kind (r - 1) (word p f k) ≡ table m → ⊥)
+          → Sweep p b used at r (f * 512 + k + 1)
       plain-step x nt = record {
         parN = S .parN;
         parK = S .parK;
@@ -298,7 +300,8 @@ module _ (p : List ℕ) (b used : ℕ) where
             own : g ≡ h → getD new g 0 ≡ suc (F .lev (b + g))
             own q =
                 let le : getD at f 0 ≡ suc (F .lev (b + f)) = S .forced F f hf (omega (arith, above)) in
-                let d = F .down (b + f) k (b + h) (omega arith, omega arith) hk (in-form p b used F (λ (l w : ℕ). x86 .kind l w ≡ table (b + h)) f k r (sym le ∙ e) t) in
+                let t-in = in-form p b used F (λ (l w : ℕ). x86 .kind l w ≡ table (b + h)) f k r (sym le ∙ e) t in
+                let d = F .down (b + f) k (b + h) (omega arith, omega arith) hk t-in in
                 let bq : b + g ≡ b + h = omega arith in
                 omega (arith, ap (λ (y : ℕ). getD new y 0) q, new-here, above, le, e, d .2, ap (F .lev) bq)
 
@@ -312,7 +315,8 @@ module _ (p : List ℕ) (b used : ℕ) where
           long = length-set at h (r - 1) ∙ S .long;
           root = new-else 0 (λ q. omega arith) ∙ S .root;
           entries = λ g j hg hj R.
-              subst (λ (y : ℕ). Entry x86 (y - 1) (word p g j)) (sym (old-same (f * 512 + k + 1) g j R)) (entries-on x g j hg hj (to-old (f * 512 + k + 1) g j R));
+              subst (λ (y : ℕ). Entry x86 (y - 1) (word p g j)) (sym (old-same (f * 512 + k + 1) g j R))
+              (entries-on x g j hg hj (to-old (f * 512 + k + 1) g j R));
           down = down-new;
           up = up-new;
           forced = forced-new;

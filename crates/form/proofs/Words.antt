@@ -1,12 +1,12 @@
 -- The kind of an entry by the tests that the code makes of its word.
-use Prim.Native.Nat.{ℕ, _-_, _<_}
-use mathlib.Core.Path.{_≡_, refl, sym, ap, _∙_, subst}
+use Prim.Native.Nat.{ℕ, _<_}
+use mathlib.Core.Path.{_≡_, subst}
 use mathlib.Core.Bool.{Bool, true, false, _&&_}
 use native.Mathlib.Omega.{arith}
-use lib.Dec.{eqb, ltb, leb}
+use lib.Dec.{ltb, leb}
 use borrow.Author.Tests.{eq-eqb, ne-eqb, eqb-true}
 use Rattle.paging.specs.Choice.{pick}
-use Rattle.paging.specs.Format.{Kind, nothing, leaf, table, Format, Entry}
+use Rattle.paging.specs.Format.{nothing, leaf, table, Entry}
 use Rattle.paging.proofs.Formats.{Is, is}
 use Rattle.x86_64.specs.Entry.{bit, frameOf, isLeaf, x86}
 use Rattle.x86_64.proofs.Format.{lawful}

@@ -6,15 +6,14 @@
 --     level       3         2         1         0      not reached
 --     read     first ------------------------> last      never
 --
--- In this order: which words have been read, what is known of them, what one word does, and the answers.
+-- In this order: which words have been read, what is known of them, the answer of a part of the sweep, what one word does, and the end.
 use Prim.Native.Nat.{ℕ, suc, _+_, _-_, _*_, _≤_, _<_}
 use mathlib.Core.Path.{_≡_}
 use mathlib.Core.Logic.{_⊎_}
 use mathlib.Core.Bool.{Bool, true, false}
 use mathlib.Core.List.{List}
 use lib.ListN.{length, getD, set}
-use Rattle.paging.specs.Format.{Kind, table, Format, Entry}
-use Rattle.paging.specs.Table.{Formed}
+use Rattle.paging.specs.Format.{table, Entry}
 use Rattle.x86_64.specs.Entry.{x86}
 use Rattle.pool.specs.Pool.{word}
 use Rattle.form.specs.Form.{WellFormed}
@@ -54,9 +53,9 @@ pub record Sweep (p : List ℕ) (b used : ℕ) (at : List ℕ) (r n : ℕ) : Typ
   pub forced : (F : WellFormed p b used) (h : ℕ) → h < used → 0 < getD at h 0 → getD at h 0 ≡ suc (F .lev (b + h))
 
 -- where it may go on, what is known there; else the pool is not well formed
-abbrev pub Swept : List ℕ → ℕ → ℕ → List ℕ → ℕ → ℕ → Bool → Type 0
-Swept p b used at r n true = Sweep p b used at r n
-Swept p b used at r n false = WellFormed p b used → ⊥
+pub data Swept (p : List ℕ) (b used : ℕ) (at : List ℕ) (r n : ℕ) : Bool → Type 0 where
+  goes : Sweep p b used at r n → Swept p b used at r n true
+  stops : (WellFormed p b used → ⊥) → Swept p b used at r n false
 
 -- What one word of a frame of rank r does to the ranks, and whether it may stand there.
 pub data Step (b used r w : ℕ) (at : List ℕ) : List ℕ → Bool → Type 0 where
@@ -67,6 +66,6 @@ pub data Step (b used r w : ℕ) (at : List ℕ) : List ℕ → Bool → Type 0 
   outside : (m : ℕ) → x86 .kind (r - 1) w ≡ table m → (m ≤ b) ⊎ (b + used ≤ m) → Step b used r w at at false
   again : (h : ℕ) → x86 .kind (r - 1) w ≡ table (b + h) → 0 < h → h < used → (getD at h 0 ≡ 0 → ⊥) → Step b used r w at at false
 
--- no taken frame is left at rank 0
+-- at the end no taken frame is left at rank 0
 abbrev pub AllReached : List ℕ → ℕ → Type 0
 AllReached at used = (g : ℕ) → g < used → 0 < getD at g 0

@@ -4,63 +4,69 @@
 // frame's rank is known before its words are read, and each word is read once.
 use x86_64::vm::X86PTE;
 ghost use mathlib.Core.Path.{_≡_};
-ghost use Prim.Native.Nat.{ℕ, _+_, _-_, _*_, _/_, _%_, _<_, _≤_};
-ghost use lib.ListN.{length, getD};
+ghost use mathlib.Core.Bool.{true};
+ghost use Prim.Native.Nat.{_+_, _-_, _*_, _/_, _%_, _<_, _≤_};
+ghost use lib.ListN.{length};
 ghost use Rattle.paging.specs.Choice.{Decided};
-ghost use Rattle.pool.specs.Pool.{word};
 ghost use Rattle.form.specs.Form.{WellFormed, Sized, Good};
-ghost use Rattle.form.specs.Sure.{Sure, told};
+ghost use Rattle.form.specs.Sure.{Told, Sure};
 ghost use Rattle.form.specs.Sweep.{Sweep, Swept, Step, AllReached};
 
-// Bits that leaves of one level have in common, and what they are: of leaves with bit 0, which every right sets, and of bare ones.
+const FRAME_WORDS: usize = 512;
+
+const MOST_FRAMES: usize = 1024;
+
+const PAGE: u64 = 4096;
+
+const PHYSICAL_END: u64 = 1 << 52;
+
+const ROOT_RANK: usize = 4;
+
+// Bits that leaves of one level have in common, and what they are.
 struct LeafBits {
     mask: u64,
     tag: u64,
-    bare_mask: u64,
-    bare_tag: u64,
 }
 
-// Bits 52 to 62, 8 to 11, 3, 4 and 0, the size's, and the address bits below it; of bare leaves also bits 63 and 1. At the root's level
-// none is a leaf, and none passes.
+// Bits 52 to 62, 8 to 11, 3 and 4, the size's, and the address bits below it. At the root's level none is a leaf, and none passes.
 fn leaf_bits(level: usize) -> LeafBits
-    ensures { λ r. ⌜ Sure level (r .mask) (r .tag) × Sure level (r .«bare_mask») (r .«bare_tag») ⌝ }
+    ensures { λ r. ⌜ Sure level (r .mask) (r .tag) ⌝ }
 {
     match level {
         0 => LeafBits {
-            mask: 0x7ff0_0000_0000_0f99,
-            tag: 0x201,
-            bare_mask: 0xfff0_0000_0000_0f9b,
-            bare_tag: 0x8000_0000_0000_0200,
+            mask: 0x7ff0_0000_0000_0f98,
+            tag: 0x200,
         },
         1 => LeafBits {
-            mask: 0x7ff0_0000_001f_ff99,
-            tag: 0x281,
-            bare_mask: 0xfff0_0000_001f_ff9b,
-            bare_tag: 0x8000_0000_0000_0280,
+            mask: 0x7ff0_0000_001f_ff98,
+            tag: 0x280,
         },
         2 => LeafBits {
-            mask: 0x7ff0_0000_3fff_ff99,
-            tag: 0x281,
-            bare_mask: 0xfff0_0000_3fff_ff9b,
-            bare_tag: 0x8000_0000_0000_0280,
+            mask: 0x7ff0_0000_3fff_ff98,
+            tag: 0x280,
         },
-        _ => LeafBits {
-            mask: 0,
-            tag: 1,
-            bare_mask: 0,
-            bare_tag: 1,
-        },
+        _ => LeafBits { mask: 0, tag: 1 },
     }
 }
 
-// Zero, or a leaf that is told at once. No branches: leaves with rights and without them come in any order.
-fn is_told(bits: LeafBits, w: u64) -> bool
-    ensures { λ r. ⌜ r ≡ told (bits .mask) (bits .tag) (bits .«bare_mask») (bits .«bare_tag») w ⌝ }
+// A leaf that is told at once; false says nothing. Every leaf of a well-formed pool goes the same way through these tests, whatever its
+// rights are, so that the processor predicts them.
+fn is_sure(bits: LeafBits, w: u64) -> bool
+    ensures { λ r. ⌜ (r ≡ true → Told (bits .mask) (bits .tag) w) ⌝ }
 {
-    (w == 0) | (w & bits.mask == bits.tag) | (w & bits.bare_mask == bits.bare_tag)
+    if w & bits.mask != bits.tag {
+        return false;
+    }
+    // WRITE without bit 0
+    if w % 4 == 2 {
+        return false;
+    }
+    // EXECUTE without bit 0
+    w % 4 * 2 + w / 0x8000_0000_0000_0000 != 0
 }
 
-// A word that is neither 0 nor told at once: false where it may not stand at this rank, and the frame that a table entry reaches gets its.
+// What a word that was not told at once does: false where it may not stand in a frame of this rank. A table entry gives the frame that it
+// reaches the next lower rank.
 fn sweep_entry(at: &mut [usize], base: u64, used: usize, rank: usize, w: u64) -> bool
     requires { ⌜ (length (now at) ≡ 1024) × (used ≤ 1024) × (0 < rank) × (base % 4096 ≡ 0) × (0 < w) ⌝ }
     ensures { λ r. ⌜ Step (base / 4096) used rank w (now (at .entry)) (now (at .exit)) r ⌝ }
@@ -76,7 +82,7 @@ fn sweep_entry(at: &mut [usize], base: u64, used: usize, rank: usize, w: u64) ->
     if paddr <= base {
         return false;
     }
-    let reached = ((paddr - base) / 4096) as usize;
+    let reached = ((paddr - base) / PAGE) as usize;
     if used <= reached {
         return false;
     }
@@ -87,13 +93,16 @@ fn sweep_entry(at: &mut [usize], base: u64, used: usize, rank: usize, w: u64) ->
     true
 }
 
-// What a word of a frame of this rank does: false where it may not stand there.
+// What any word does. Most are 0 or told at once.
 fn sweep_word(at: &mut [usize], base: u64, used: usize, rank: usize, bits: LeafBits, w: u64) -> bool
     requires { ⌜ (length (now at) ≡ 1024) × (used ≤ 1024) × (0 < rank) × (base % 4096 ≡ 0) ⌝ }
-    requires { ⌜ Sure (rank - 1) (bits .mask) (bits .tag) × Sure (rank - 1) (bits .«bare_mask») (bits .«bare_tag») ⌝ }
+    requires { ⌜ Sure (rank - 1) (bits .mask) (bits .tag) ⌝ }
     ensures { λ r. ⌜ Step (base / 4096) used rank w (now (at .entry)) (now (at .exit)) r ⌝ }
 {
-    if is_told(bits, w) {
+    if w == 0 {
+        return true;
+    }
+    if is_sure(bits, w) {
         return true;
     }
     sweep_entry(at, base, used, rank, w)
@@ -117,9 +126,9 @@ fn sweep_frame(
         return true;
     }
     let bits = leaf_bits(rank - 1);
-    let start = frame * 512;
+    let start = frame * FRAME_WORDS;
     let mut k = 0;
-    while k < 512 {
+    while k < FRAME_WORDS {
         if !sweep_word(at, base, used, rank, bits, pool[start + k]) {
             return false;
         }
@@ -145,13 +154,13 @@ fn sweep_rank(pool: &[u64], at: &mut [usize], base: u64, used: usize, rank: usiz
     true
 }
 
-// Reads every frame that the root leads to.
+// Reads every frame that the root leads to, the root first.
 fn sweep_all(pool: &[u64], at: &mut [usize], base: u64, used: usize) -> bool
     requires { ⌜ Sized (length (now pool)) base used ⌝ }
     requires { ⌜ Sweep (now pool) (base / 4096) used (now at) 4 0 ⌝ }
     ensures { λ r. ⌜ Swept (now (pool .entry)) (base / 4096) used (now (at .exit)) 0 0 r ⌝ }
 {
-    let mut rank = 4;
+    let mut rank = ROOT_RANK;
     while 0 < rank {
         if !sweep_rank(pool, at, base, used, rank) {
             return false;
@@ -161,6 +170,7 @@ fn sweep_all(pool: &[u64], at: &mut [usize], base: u64, used: usize) -> bool
     true
 }
 
+// Whether each taken frame has a rank.
 fn all_reached(at: &[usize], used: usize) -> bool
     requires { ⌜ used ≤ length (now at) ⌝ }
     ensures { λ r. ⌜ Decided (AllReached (now (at .entry)) used) r ⌝ }
@@ -180,21 +190,13 @@ pub fn is_formed(pool: &[u64], base: u64, used: usize) -> bool
     requires { ⌜ Sized (length (now pool)) base used ⌝ }
     ensures { λ r. ⌜ Decided (WellFormed (now (pool .entry)) (base / 4096) used) r ⌝ }
 {
-    let mut at = [0usize; 1024];
-    at[0] = 4;
+    let mut at = [0usize; MOST_FRAMES];
+    at[0] = ROOT_RANK;
     if !sweep_all(pool, &mut at, base, used) {
         return false;
     }
     all_reached(&at, used)
 }
-
-const FRAME_WORDS: usize = 512;
-
-const MOST_FRAMES: usize = 1024;
-
-const PAGE: u64 = 4096;
-
-const PHYSICAL_END: u64 = 1 << 52;
 
 // Whether length, base and `used` of a pool are right.
 fn is_sized(len: usize, base: u64, used: usize) -> bool

@@ -1,13 +1,11 @@
+-- `all_reached`: every frame that was passed has a rank.
 use borrow.Author.Count.{below-none, below-more}
-use borrow.Author.Needs.{needs}
 use native.Mathlib.Omega.{arith}
 use Prim.Native.Nat.{ℕ, _≤_, _<_, _-_}
 use lib.ListN.{length, getD}
 use denote.Ref.{now}
 use Rattle.form.proofs.all_reached.Statement.{statement}
 use Rattle.form.proofs.all_reached.Tie as tie
-use Rattle.form.proofs.all_reached.Reads as reads
-use Rattle.form.proofs.all_reached.Lts as lts
 
 abbrev Inv-loop : tie.InvT-loop
 Inv-loop at used frame₀ frame = (frame ≤ used) × (used ≤ length at) × ((g : ℕ) → g < frame → 0 < getD at g 0)

@@ -1,3 +1,4 @@
+-- `is_formed`: the sweep begins with the root alone, and when it is over every taken frame has a rank or the pool is not well formed.
 use Prim.Native.Nat.{_/_}
 use denote.Ref.{now}
 use Rattle.form.proofs.Answers.{passed, refused}
@@ -6,10 +7,6 @@ use Rattle.form.proofs.Ends.{answered}
 use borrow.Author.Needs.{needs}
 use Rattle.form.proofs.is_formed.Statement.{statement}
 use Rattle.form.proofs.is_formed.Tie as tie
-use Rattle.form.proofs.is_formed.Reads as reads
-use Rattle.form.proofs.is_formed.Lts as lts
-use Rattle.form.proofs.all_reached.Reads as all-reached-reads
-use Rattle.form.proofs.sweep_all.Reads as sweep-all-reads
 
 array-write-at : tie.Need-array-write-at
 array-write-at c = search needs
@@ -21,11 +18,7 @@ sweep-all-requires : tie.Need-sweep-all-requires
 sweep-all-requires c κs = let s = c .before .before in let a = s .args in (s .pre, begin (now (a .pool)) (a .base / 4096) (a .used))
 
 returns : tie.Need-returns
-returns c =
-    let k = c .before .before in
-    let a = k .before .before .before .args in
-    let r = k .sweep-all in
-    refused (now (a .pool)) (a .base / 4096) (a .used) (r .last .1 .0) 0 0 (r .result) (c .if1 .taken) (r .ensures)
+returns c = refused (c .if1 .taken) (c .before .before .sweep-all .ensures)
 
 slice-aggregate-all-reached : tie.Need-slice-aggregate-all-reached
 slice-aggregate-all-reached c = search needs
@@ -40,7 +33,7 @@ returns-2 c =
     let a = s .args in
     let r = k .sweep-all in
     answered (now (a .pool)) (a .base / 4096) (a .used) (r .last .1 .0)
-    (passed (now (a .pool)) (a .base / 4096) (a .used) (r .last .1 .0) 0 0 (r .result) (c .before .before .if1 .left) (r .ensures))
+    (passed (c .before .before .if1 .left) (r .ensures))
     (c .all-reached .result) (s .pre .root) (c .all-reached .ensures)
 
 pub is-formed-spec : {M : Type 1} → statement M

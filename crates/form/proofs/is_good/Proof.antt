@@ -1,3 +1,4 @@
+-- `is_good`: of a pool whose sizes are right the form decides.
 use lib.ListN.{length}
 use denote.Ref.{now}
 use borrow.Author.Tests.{not-true, not-false}
@@ -6,10 +7,6 @@ use Rattle.form.proofs.Answers.{holds, fails, by-form}
 use borrow.Author.Needs.{needs}
 use Rattle.form.proofs.is_good.Statement.{statement}
 use Rattle.form.proofs.is_good.Tie as tie
-use Rattle.form.proofs.is_good.Reads as reads
-use Rattle.form.proofs.is_good.Lts as lts
-use Rattle.form.proofs.is_formed.Reads as is-formed-reads
-use Rattle.form.proofs.is_sized.Reads as is-sized-reads
 
 sized : (k : tie.Else1) → let a = k .before .before .before .args in Sized (length (now (a .pool))) (a .base) (a .used)
 sized k =
@@ -24,7 +21,8 @@ returns : tie.Need-returns
 returns c =
     let k = c .before in
     let a = k .before .before .args in
-    λ g. fails (Sized (length (now (a .pool))) (a .base) (a .used)) (k .is-sized .result) (not-true _ (c .if1 .taken)) (k .is-sized .ensures) (g .sized)
+    λ g. fails (Sized (length (now (a .pool))) (a .base) (a .used)) (k .is-sized .result) (not-true _ (c .if1 .taken)) (k .is-sized .ensures)
+    (g .sized)
 
 is-formed-requires : tie.Need-is-formed-requires
 is-formed-requires c κs = sized c

@@ -1,3 +1,4 @@
+-- `is_sized`: each test is a part of `Sized`.
 use Prim.Native.Nat.{_/_}
 use native.Mathlib.Omega.{arith}
 use Rattle.form.specs.Form.{Sized}
@@ -5,8 +6,6 @@ use Rattle.form.proofs.Answers.{by-le}
 use borrow.Author.Needs.{needs}
 use Rattle.form.proofs.is_sized.Statement.{statement}
 use Rattle.form.proofs.is_sized.Tie as tie
-use Rattle.form.proofs.is_sized.Reads as reads
-use Rattle.form.proofs.is_sized.Lts as lts
 
 returns : tie.Need-returns
 returns c = search needs

@@ -1,17 +1,15 @@
-use mathlib.Core.Path.{_≡_, refl, sym, ap, _∙_, subst}
+-- `sweep_all`: the ranks above the present one have been read.
+use mathlib.Core.Path.{_≡_, sym, _∙_, subst}
 use native.Mathlib.Omega.{arith}
-use Prim.Native.Nat.{ℕ, _≤_, _<_, _+_, _-_, _*_, _/_}
+use Prim.Native.Nat.{ℕ, _+_, _-_, _*_, _/_}
 use lib.ListN.{length}
 use denote.Ref.{now}
-use Rattle.form.specs.Form.{Sized, WellFormed}
-use Rattle.form.specs.Sweep.{Sweep}
+use Rattle.form.specs.Form.{Sized}
+use Rattle.form.specs.Sweep.{Sweep, goes, stops}
 use Rattle.form.proofs.Answers.{passed, refused}
 use Rattle.form.proofs.Steps.{next-rank}
 use Rattle.form.proofs.sweep_all.Statement.{statement}
 use Rattle.form.proofs.sweep_all.Tie as tie
-use Rattle.form.proofs.sweep_all.Reads as reads
-use Rattle.form.proofs.sweep_all.Lts as lts
-use Rattle.form.proofs.sweep_rank.Reads as sweep-rank-reads
 
 abbrev Inv-loop : tie.InvT-loop
 Inv-loop pool at₀ base used rank₀ at rank = (length at₀ ≡ 1024) × Sized (length pool) base used × Sweep pool (base / 4096) used at rank 0
@@ -26,15 +24,13 @@ sweep-rank-requires : tie.Need-sweep-rank-requires Inv-loop μ-loop
 sweep-rank-requires c κs = let i = c .before .before .loop .inv in (i .1, (c .before .loop-test .taken, i .2))
 
 same-length : tie.Need-same-length Inv-loop μ-loop
-same-length c = let k = c .before .before .before in let i = k .before .before .before .loop .inv in k .sweep-rank .kept .1 .0 ∙ i .2 .long ∙ sym (i .0)
+same-length c =
+    let k = c .before .before .before in
+    let i = k .before .before .before .loop .inv in
+    k .sweep-rank .kept .1 .0 ∙ i .2 .long ∙ sym (i .0)
 
 returns : tie.Need-returns Inv-loop μ-loop
-returns c =
-    let k = c .before .before .before in
-    let h = k .before .before .before in
-    let a = h .before .before .before .args in
-    let r = k .sweep-rank in
-    refused (now (a .pool)) (a .base / 4096) (a .used) (r .last .1 .0) (h .loop .rank) (a .used * 512) (r .result) (c .if1 .taken) (r .ensures)
+returns c = stops (refused (c .if1 .taken) (c .before .before .before .sweep-rank .ensures))
 
 sub-rank : tie.Need-sub-rank Inv-loop μ-loop
 sub-rank c = omega arith
@@ -54,7 +50,7 @@ loop-again c =
       i .1,
       next-rank (now (a .pool)) (a .base / 4096) (a .used) (r .last .1 .0) (h .loop .rank - 1)
           (subst (λ (y : ℕ). Sweep (now (a .pool)) (a .base / 4096) (a .used) (r .last .1 .0) y (a .used * 512)) e
-          (passed (now (a .pool)) (a .base / 4096) (a .used) (r .last .1 .0) (h .loop .rank) (a .used * 512) (r .result) (c .if1 .left) (r .ensures))),
+          (passed (c .if1 .left) (r .ensures))),
     )
 
 same-length-2 : tie.Need-same-length-2 Inv-loop μ-loop
@@ -65,7 +61,7 @@ returns-2 c =
     let h = c .before in
     let a = h .before .before .before .args in
     let e : h .loop .rank ≡ 0 = omega arith in
-    subst (λ (y : ℕ). Sweep (now (a .pool)) (a .base / 4096) (a .used) (h .loop .at) y 0) e (h .loop .inv .2)
+    goes (subst (λ (y : ℕ). Sweep (now (a .pool)) (a .base / 4096) (a .used) (h .loop .at) y 0) e (h .loop .inv .2))
 
 pub sweep-all-spec : {M : Type 1} → statement M
 sweep-all-spec =

@@ -1,21 +1,15 @@
-use mathlib.Core.Bool.{false}
-use mathlib.Core.Path.{_≡_, sym, _∙_}
+-- `sweep_entry`: each way through the tests is a way of `Step`.
+use mathlib.Core.Path.{sym, _∙_}
 use Prim.Native.Nat.{_-_}
-use denote.Ref.{now}
 use borrow.Author.Tests.{not-true, not-false}
 use Rattle.paging.specs.Format.{Entry}
-use Rattle.x86_64.specs.Entry.{isLeaf, x86}
+use Rattle.x86_64.specs.Entry.{x86}
 use Rattle.form.specs.Sweep.{foreign}
 use Rattle.form.proofs.Answers.{holds, fails}
-use Rattle.form.proofs.Marks.{by-leaf, by-low, by-high, by-again, by-rank}
+use Rattle.form.proofs.Marks.{Table, by-leaf, by-low, by-high, by-again, by-rank}
 use borrow.Author.Needs.{needs}
 use Rattle.form.proofs.sweep_entry.Statement.{statement}
 use Rattle.form.proofs.sweep_entry.Tie as tie
-use Rattle.form.proofs.sweep_entry.Reads as reads
-use Rattle.form.proofs.sweep_entry.Lts as lts
-use Rattle.x86_64.proofs.vm.X86PTE.addr.Reads as addr-reads
-use Rattle.x86_64.proofs.vm.X86PTE.is_entry.Reads as is-entry-reads
-use Rattle.x86_64.proofs.vm.X86PTE.is_leaf.Reads as is-leaf-reads
 
 -- the word is an entry
 entry : (k : tie.Else1) → let a = k .before .before .before .args in Entry x86 (a .rank - 1) (a .w)
@@ -24,9 +18,18 @@ entry k =
     let a = e .before .before .args in
     holds (Entry x86 (a .rank - 1) (a .w)) (e .is-entry .result) (not-false _ (k .if1 .left)) (e .is-entry .ensures)
 
--- and no leaf
-no-leaf : (k : tie.Else2) → let a = k .before .before .before .before .before .args in isLeaf (a .w) ≡ false
-no-leaf k = sym (k .before .is-leaf .ensures) ∙ k .if2 .left
+-- and a table
+found : (k : tie.After-addr) → let a = k .before .before .before .before .before .before .args in Table (a .base) (a .rank) (a .w) (k .addr .result)
+found k =
+    let l = k .before .before in
+    let s = l .before .before .before .before in
+    record {
+      positive = s .pre .4;
+      entry = entry (l .before);
+      no-leaf = sym (l .is-leaf .ensures) ∙ k .before .if2 .left;
+      addr = k .addr .ensures;
+      page = s .pre .3;
+    }
 
 sub-is-entry : tie.Need-sub-is-entry
 sub-is-entry c = search needs
@@ -46,33 +49,19 @@ is-leaf-requires c κs = search needs
 returns-2 : tie.Need-returns-2
 returns-2 c =
     let n = c .before .before in
-    let s = n .before .before .before in
-    let a = s .args in
-    by-leaf (now (a .at)) (a .base) (a .used) (a .rank) (a .w) (s .pre .4) (entry n) (sym (c .before .is-leaf .ensures) ∙ c .if2 .taken)
+    by-leaf (n .before .before .before .pre .4) (entry n) (sym (c .before .is-leaf .ensures) ∙ c .if2 .taken)
 
 addr-requires : tie.Need-addr-requires
 addr-requires c κs = search needs
 
 returns-3 : tie.Need-returns-3
-returns-3 c =
-    let k = c .before .before in
-    let n = k .before .before in
-    let s = n .before .before .before in
-    let a = s .args in
-    let d = c .before .addr in
-    by-low (now (a .at)) (a .base) (a .used) (a .rank) (a .w) (s .pre .4) (entry n) (no-leaf k) (d .result) (d .ensures) (s .pre .3) (c .if3 .taken)
+returns-3 c = by-low (found (c .before)) (c .if3 .taken)
 
 sub-reached : tie.Need-sub-reached
 sub-reached c = search needs
 
 returns-4 : tie.Need-returns-4
-returns-4 c =
-    let k = c .before .before .before in
-    let n = k .before .before in
-    let s = n .before .before .before in
-    let a = s .args in
-    let d = c .before .before .addr in
-    by-high (now (a .at)) (a .base) (a .used) (a .rank) (a .w) (s .pre .4) (entry n) (no-leaf k) (d .result) (d .ensures) (s .pre .3) (c .before .if3 .left) (c .if4 .taken)
+returns-4 c = by-high (found (c .before .before)) (c .before .if3 .left) (c .if4 .taken)
 
 mul-if5 : tie.Need-mul-if5
 mul-if5 c = search needs
@@ -82,12 +71,8 @@ slice-read-if5 c = search needs
 
 returns-5 : tie.Need-returns-5
 returns-5 c =
-    let k = c .before .before .before .before .before in
-    let n = k .before .before in
-    let s = n .before .before .before in
-    let a = s .args in
-    let d = c .before .before .before .before .addr in
-    by-again (now (a .at)) (a .base) (a .used) (a .rank) (a .w) (s .pre .4) (entry n) (no-leaf k) (d .result) (d .ensures) (s .pre .3) (c .before .before .before .if3 .left) (c .before .before .if4 .left) (c .if5 .taken)
+    let n = c .before .before in
+    by-again (found (n .before .before)) (n .before .if3 .left) (n .if4 .left) (c .if5 .taken)
 
 sub-at : tie.Need-sub-at
 sub-at c = search needs
@@ -103,12 +88,8 @@ same-length c = search needs
 
 returns-6 : tie.Need-returns-6
 returns-6 c =
-    let k = c .before .before .before .before .before in
-    let n = k .before .before in
-    let s = n .before .before .before in
-    let a = s .args in
-    let d = c .before .before .before .before .addr in
-    by-rank (now (a .at)) (a .base) (a .used) (a .rank) (a .w) (s .pre .4) (entry n) (no-leaf k) (d .result) (d .ensures) (s .pre .3) (c .before .before .before .if3 .left) (c .before .before .if4 .left) (c .if5 .left)
+    let n = c .before .before in
+    by-rank (found (n .before .before)) (n .before .if3 .left) (n .if4 .left) (c .if5 .left)
 
 pub sweep-entry-spec : {M : Type 1} → statement M
 sweep-entry-spec =

@@ -1,3 +1,4 @@
+-- `sweep_frame`: what is known when the turn of the rank has come to word k of the frame, whose rank stays.
 use mathlib.Core.Path.{_≡_, refl, sym, _∙_, subst}
 use native.Mathlib.Omega.{arith}
 use Prim.Native.Nat.{ℕ, _≤_, _<_, _+_, _-_, _*_, _/_}
@@ -5,21 +6,17 @@ use lib.ListN.{length, getD}
 use denote.Ref.{now}
 use Rattle.form.specs.Form.{Sized}
 use Rattle.form.specs.Sure.{Sure}
-use Rattle.form.specs.Sweep.{Sweep, Swept}
+use Rattle.form.specs.Sweep.{Sweep, Swept, goes, stops}
 use Rattle.form.proofs.Answers.{passed, refused}
 use Rattle.form.proofs.Steps.{skip-frame}
 use Rattle.form.proofs.Refusals.{rank-stays, stepped}
 use Rattle.form.proofs.sweep_frame.Statement.{statement}
 use Rattle.form.proofs.sweep_frame.Tie as tie
-use Rattle.form.proofs.sweep_frame.Reads as reads
-use Rattle.form.proofs.sweep_frame.Lts as lts
-use Rattle.form.proofs.leaf_bits.Reads as leaf-bits-reads
-use Rattle.form.proofs.sweep_word.Reads as sweep-word-reads
 
 abbrev Inv-loop : tie.InvT-loop
 Inv-loop pool at₀ base used rank frame bits start k₀ at k =
     (k ≤ 512) × (start ≡ frame * 512) × (frame < used) × (0 < rank) × (getD at frame 0 ≡ rank) × (length at₀ ≡ 1024)
-    × Sized (length pool) base used × Sweep pool (base / 4096) used at rank (frame * 512 + k) × Sure (rank - 1) (bits .mask) (bits .tag) × Sure (rank - 1) (bits .«bare_mask») (bits .«bare_tag»)
+    × Sized (length pool) base used × Sweep pool (base / 4096) used at rank (frame * 512 + k) × Sure (rank - 1) (bits .mask) (bits .tag)
 
 abbrev μ-loop : tie.MeasureT-loop
 μ-loop pool at₀ base used rank frame bits start k₀ at k = 512 - k
@@ -47,7 +44,7 @@ returns : tie.Need-returns Inv-loop μ-loop
 returns c =
     let s = c .before .before .before .before in
     let a = s .args in
-    skip-frame (now (a .pool)) (a .base / 4096) (a .used) (now (a .at)) (a .rank) (a .frame) (c .if1 .taken) (s .pre .1 .1)
+    goes (skip-frame (now (a .pool)) (a .base / 4096) (a .used) (now (a .at)) (a .rank) (a .frame) (c .if1 .taken) (s .pre .1 .1))
 
 sub-leaf-bits : tie.Need-sub-leaf-bits Inv-loop μ-loop
 sub-leaf-bits c = let s = c .before .before .before .before in omega (arith, s .pre .1 .0 .1)
@@ -71,8 +68,7 @@ loop-holds c =
       s .pre .1 .1 .long,
       s .pre .0,
       subst (Sweep (now (a .pool)) (a .base / 4096) (a .used) (now (a .at)) (a .rank)) z (s .pre .1 .1),
-      c .leaf-bits .ensures .0,
-      c .leaf-bits .ensures .1,
+      c .leaf-bits .ensures,
     )
 
 add-sweep-word : tie.Need-add-sweep-word Inv-loop μ-loop
@@ -87,7 +83,7 @@ shared-slice-read-sweep-word c = let i = c .before .before .before .loop .inv in
 sweep-word-requires : tie.Need-sweep-word-requires Inv-loop μ-loop
 sweep-word-requires c κs =
     let i = c .before .before .before .loop .inv in
-    ((i .7 .long, omega (arith, i .6 .there, i .6 .few), i .3, i .6 .page), (i .8, i .9))
+    ((i .7 .long, omega (arith, i .6 .there, i .6 .few), i .3, i .6 .page), i .8)
 
 same-length : tie.Need-same-length Inv-loop μ-loop
 same-length c =
@@ -96,12 +92,7 @@ same-length c =
     k .sweep-word .kept .0 ∙ i .7 .long ∙ sym (i .5)
 
 returns-2 : tie.Need-returns-2 Inv-loop μ-loop
-returns-2 c =
-    let k = c .before .before .before in
-    let h = k .before .before .before .before in
-    let a = h .before .before .before .before .before .before .args in
-    let r = k .sweep-word in
-    refused (now (a .pool)) (a .base / 4096) (a .used) (r .last .0) (a .rank) (a .frame * 512 + (h .loop .k + 1)) (r .result) (c .if2 .taken) (went k)
+returns-2 c = stops (refused (c .if2 .taken) (went (c .before .before .before)))
 
 add-k : tie.Need-add-k Inv-loop μ-loop
 add-k c = omega arith
@@ -116,8 +107,7 @@ loop-again c =
     let a = h .before .before .before .before .before .before .args in
     let i = h .loop .inv in
     let r = k .sweep-word in
-    let e : getD (r .last .0) (a .frame) 0 ≡ a .rank =
-    rank-stays (a .base / 4096) (a .used) (a .rank) (getD (now (a .pool)) (a .frame * 512 + h .loop .k) 0) (a .frame) (h .loop .at) (r .last .0) (r .result) (omega arith) (r .ensures) ∙ i .4 in (
+    let e : getD (r .last .0) (a .frame) 0 ≡ a .rank = rank-stays (a .frame) (omega arith) (r .ensures) ∙ i .4 in (
       omega arith,
       refl,
       i .2,
@@ -125,9 +115,8 @@ loop-again c =
       e,
       i .5,
       i .6,
-      passed (now (a .pool)) (a .base / 4096) (a .used) (r .last .0) (a .rank) (a .frame * 512 + (h .loop .k + 1)) (r .result) (c .if2 .left) (went k),
+      passed (c .if2 .left) (went k),
       i .8,
-      i .9,
     )
 
 same-length-2 : tie.Need-same-length-2 Inv-loop μ-loop
@@ -138,7 +127,7 @@ returns-3 c =
     let h = c .before in
     let a = h .before .before .before .before .before .before .args in
     let z : h .loop .k ≡ 512 = omega arith in
-    subst (λ (y : ℕ). Sweep (now (a .pool)) (a .base / 4096) (a .used) (h .loop .at) (a .rank) (a .frame * 512 + y)) z (h .loop .inv .7)
+    goes (subst (λ (y : ℕ). Sweep (now (a .pool)) (a .base / 4096) (a .used) (h .loop .at) (a .rank) (a .frame * 512 + y)) z (h .loop .inv .7))
 
 pub sweep-frame-spec : {M : Type 1} → statement M
 sweep-frame-spec =

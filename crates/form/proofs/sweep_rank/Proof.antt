@@ -1,16 +1,14 @@
-use mathlib.Core.Path.{_≡_, refl, sym, ap, _∙_, subst}
+-- `sweep_rank`: what is known when the turn of the rank has come to the frame.
+use mathlib.Core.Path.{_≡_, sym, _∙_, subst}
 use native.Mathlib.Omega.{arith}
 use Prim.Native.Nat.{ℕ, _≤_, _<_, _+_, _-_, _*_, _/_}
-use lib.ListN.{length, getD}
+use lib.ListN.{length}
 use denote.Ref.{now}
-use Rattle.form.specs.Form.{Sized, WellFormed}
-use Rattle.form.specs.Sweep.{Sweep, Swept}
+use Rattle.form.specs.Form.{Sized}
+use Rattle.form.specs.Sweep.{Sweep, goes, stops}
 use Rattle.form.proofs.Answers.{passed, refused}
 use Rattle.form.proofs.sweep_rank.Statement.{statement}
 use Rattle.form.proofs.sweep_rank.Tie as tie
-use Rattle.form.proofs.sweep_rank.Reads as reads
-use Rattle.form.proofs.sweep_rank.Lts as lts
-use Rattle.form.proofs.sweep_frame.Reads as sweep-frame-reads
 
 abbrev Inv-loop : tie.InvT-loop
 Inv-loop pool at₀ base used rank frame₀ at frame =
@@ -29,15 +27,13 @@ sweep-frame-requires c κs =
     (i .3, ((c .before .loop-test .taken, i .1), i .4))
 
 same-length : tie.Need-same-length Inv-loop μ-loop
-same-length c = let k = c .before .before .before in let i = k .before .before .before .loop .inv in k .sweep-frame .kept .1 .0 ∙ i .4 .long ∙ sym (i .2)
+same-length c =
+    let k = c .before .before .before in
+    let i = k .before .before .before .loop .inv in
+    k .sweep-frame .kept .1 .0 ∙ i .4 .long ∙ sym (i .2)
 
 returns : tie.Need-returns Inv-loop μ-loop
-returns c =
-    let k = c .before .before .before in
-    let h = k .before .before .before in
-    let a = h .before .before .before .args in
-    let r = k .sweep-frame in
-    refused (now (a .pool)) (a .base / 4096) (a .used) (r .last .1 .0) (a .rank) (h .loop .frame * 512 + 512) (r .result) (c .if1 .taken) (r .ensures)
+returns c = stops (refused (c .if1 .taken) (c .before .before .before .sweep-frame .ensures))
 
 add-frame : tie.Need-add-frame Inv-loop μ-loop
 add-frame c = omega arith
@@ -58,7 +54,7 @@ loop-again c =
       i .2,
       i .3,
       subst (Sweep (now (a .pool)) (a .base / 4096) (a .used) (r .last .1 .0) (a .rank)) e
-          (passed (now (a .pool)) (a .base / 4096) (a .used) (r .last .1 .0) (a .rank) (h .loop .frame * 512 + 512) (r .result) (c .if1 .left) (r .ensures)),
+          (passed (c .if1 .left) (r .ensures)),
     )
 
 same-length-2 : tie.Need-same-length-2 Inv-loop μ-loop
@@ -69,7 +65,7 @@ returns-2 c =
     let h = c .before in
     let a = h .before .before .before .args in
     let e : h .loop .frame ≡ a .used = omega arith in
-    subst (λ (y : ℕ). Sweep (now (a .pool)) (a .base / 4096) (a .used) (h .loop .at) (a .rank) (y * 512)) e (h .loop .inv .4)
+    goes (subst (λ (y : ℕ). Sweep (now (a .pool)) (a .base / 4096) (a .used) (h .loop .at) (a .rank) (y * 512)) e (h .loop .inv .4))
 
 pub sweep-rank-spec : {M : Type 1} → statement M
 sweep-rank-spec =
