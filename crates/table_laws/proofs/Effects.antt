@@ -2,7 +2,7 @@
 use Prim.Native.Nat.{ℕ, zero, suc, _+_, _-_, _*_, _/_, _%_, _^_, _≤_, _<_}
 use mathlib.Core.Path.{_≡_, refl, sym, ap, _∙_, subst}
 use mathlib.Core.Bool.{Bool, true, false}
-use mathlib.Core.Logic.{⊎-elim}
+use mathlib.Core.Logic.{inl, inr, ⊎-elim}
 use mathlib.Core.List.{List}
 use native.Mathlib.Omega.{arith}
 use lib.Dec.{lit<}
@@ -22,6 +22,7 @@ use Rattle.x86_64.proofs.Format.{lawful}
 use Rattle.pool.specs.Pool.{word, putWord, memOf, Taken}
 use Rattle.pool.proofs.Memory.{mem-at}
 use Rattle.form.specs.Form.{WellFormed, Good}
+use Rattle.refusal.specs.declared.Refusal.{Refusal}
 use Rattle.refusal.specs.declared.Refusal.the-variants.{InvalidArgs, NotMapped, AlreadyMapped, NoFrames}
 use Rattle.walk.specs.Walk.{sizeAt, found}
 use Rattle.walk.specs.declared.Walk.{Walk}
@@ -41,7 +42,8 @@ use Rattle.table.proofs.Laws.{shown, gone, refused-address, rewritten}
 use Rattle.table_map.specs.Map.{filled, leafFor, mapped, Mapping}
 use Rattle.table_map.specs.declared.MapResult.the-variants as map
 use Rattle.table_map.proofs.Fills.{table-there, short, done}
-use Rattle.table_laws.specs.Effects.{showsIn, translatesIn, Rewrites, Adds, Effects}
+use Rattle.table_laws.specs.Effects.{showsIn, translatesIn, Rewrites, Adds, MapAnswer, in-the-way, Effects}
+use Rattle.table_laws.specs.Effects as effect
 use Rattle.table_laws.proofs.Writes.{rewrites}
 use Rattle.table_laws.proofs.Grows.{nowhere-blank, fills}
 use Rattle.table_laws.proofs.Leaves.{LeafAt, new-leaf, map-leaf}
@@ -64,14 +66,14 @@ module _ (p : List ℕ) (base used v : ℕ) (G : Good p base used) where
   b = base / 4096
 
   -- what an address shows is the word at its place
-  shown-at : (l f k : ℕ) → Placed p b used (G .formed) v l f k → showsIn p base v ≡ view l (word p f k)
+  pub shown-at : (l f k : ℕ) → Placed p b used (G .formed) v l f k → showsIn p base v ≡ view l (word p f k)
   shown-at l f k P =
       let w : memOf p b (P .E .n) (index (P .E .l) v) ≡ word p f k =
       ap (λ (n : ℕ). memOf p b n (index (P .E .l) v)) (P .number) ∙ mem-at p b f (index (P .E .l) v) ∙ ap (word p f) (ap (λ (m : ℕ). index m v) (P .level) ∙ sym (P .at)) in
       P .E .shown ∙ ap (view (P .E .l)) w ∙ ap (λ (m : ℕ). view m (word p f k)) (P .level)
 
   -- a leaf translates to its own frame and rights
-  leaf-translates : (e : LeafEntry) → found p b v ≡ Leaf e → translatesIn p base v ≡ to (addrOf (word p (e .frame) (e .place)) + v % sizeOf (e .size)) (flagsOf (word p (e .frame) (e .place)))
+  pub leaf-translates : (e : LeafEntry) → found p b v ≡ Leaf e → translatesIn p base v ≡ to (addrOf (word p (e .frame) (e .place)) + v % sizeOf (e .size)) (flagsOf (word p (e .frame) (e .place)))
   unfolding translates x86
   leaf-translates e q =
       let o = over p b used (G .formed) v e q in
@@ -87,7 +89,7 @@ module _ (p : List ℕ) (base used v : ℕ) (G : Good p base used) where
       let u = unused p b used (G .formed) v o q in
       ap (translated x86 v) (shown-at (o .level) (o .frame) (o .place) (u .placed) ∙ ap (view (o .level)) (u .blank)) ∙ nowhere-blank v (o .level)
 
-  queries : (a : ℕ) (f : MMUFlags) (s : PageSize) → queried p b v ≡ query.Page a f s → translatesIn p base v ≡ to a (f .0)
+  pub queries : (a : ℕ) (f : MMUFlags) (s : PageSize) → queried p b v ≡ query.Page a f s → translatesIn p base v ≡ to a (f .0)
   queries a f s = go (found p b v) refl
     where
       go : (r : Walk) → found p b v ≡ r → queried p b v ≡ query.Page a f s → translatesIn p base v ≡ to a (f .0)
@@ -104,7 +106,7 @@ module _ (p : List ℕ) (base used v : ℕ) (G : Good p base used) where
           let z : _≡_ {A = ℕ} 0 1 = cc in
           absurd (omega arith)
 
-  queries-not : queried p b v ≡ query.Refused NotMapped → translatesIn p base v ≡ nowhere
+  pub queries-not : queried p b v ≡ query.Refused NotMapped → translatesIn p base v ≡ nowhere
   queries-not = go (found p b v) refl
     where
       go : (r : Walk) → found p b v ≡ r → queried p b v ≡ query.Refused NotMapped → translatesIn p base v ≡ nowhere
@@ -234,6 +236,75 @@ module _ (p : List ℕ) (base used v : ℕ) (G : Good p base used) where
                   outside = F .outside;
                 }))
 
+module _ (p : List ℕ) (base used v : ℕ) (G : Good p base used) where
+  map-answer : (s : PageSize) (pa f : ℕ) → MapAnswer p base used v (levelOf s) (mapped p (base / 4096) used v s pa f .result)
+  map-answer s pa f = go (found p (base / 4096) v) refl
+    where
+      Goal : Type 0
+      Goal = MapAnswer p base used v (levelOf s) (mapped p (base / 4096) used v s pa f .result)
+
+      go : (r : Walk) → found p (base / 4096) v ≡ r → Goal
+      go (Leaf e) q =
+          let o = over p (base / 4096) used (G .formed) v e q in
+          in-the-way (o .l) (word p (e .frame) (e .place)) (shown-at p base used v G (o .l) (e .frame) (e .place) (o .placed)) (inl (o .kind)) (rw q)
+      go (Open o) q = ⊎-elim table-in-way (λ c. ⊎-elim (short-of c) (enough c) (below? (length p / 512 - used) (o .level - levelOf s))) (below? (o .level) (levelOf s))
+        where
+          blank-there : showsIn p base v ≡ view (o .level) 0
+          blank-there =
+              let u = unused p (base / 4096) used (G .formed) v o q in
+              shown-at p base used v G (o .level) (o .frame) (o .place) (u .placed) ∙ ap (view (o .level)) (u .blank)
+
+          table-in-way : o .level < levelOf s → Goal
+          table-in-way c = in-the-way (o .level) 0 blank-there (inr c) (ap (λ (u : Mapping). u .result) (table-there p (base / 4096) used v s pa f o q c))
+
+          short-of : levelOf s ≤ o .level → length p / 512 - used < o .level - levelOf s → Goal
+          short-of c d = effect.short (o .level) blank-there c d (ap (λ (u : Mapping). u .result) (short p (base / 4096) used v s pa f o q c d))
+
+          enough : levelOf s ≤ o .level → o .level - levelOf s ≤ length p / 512 - used → Goal
+          enough c d = effect.done (o .level) blank-there c d (ap (λ (u : Mapping). u .result) (done p (base / 4096) used v s pa f o q c d))
+
+-- a refused call changes no word, whatever the pool is
+module _ (p : List ℕ) (b v : ℕ) where
+  pub unmap-refused : (r : Refusal) → unmapped p b v .result ≡ unmap.Refused r → unmapped p b v .pool ≡ p
+  unmap-refused r = go (found p b v) refl
+    where
+      go : (k : Walk) → found p b v ≡ k → unmapped p b v .result ≡ unmap.Refused r → unmapped p b v .pool ≡ p
+      go (Open o) q h = rw q
+      go (Leaf e) q h =
+          let some : unmap.Unmapped (addrOf (word p (e .frame) (e .place))) (e .size) ≡ unmap.Refused r = rw q at h in
+          let z : _≡_ {A = ℕ} 0 1 = cc in
+          absurd (omega arith)
+
+  pub update-refused : (n : NewAddr) (f : NewFlags) (r : Refusal) → updated p b v n f .result ≡ update.Refused r → updated p b v n f .pool ≡ p
+  update-refused n f r = go (found p b v) refl
+    where
+      go : (k : Walk) → found p b v ≡ k → updated p b v n f .result ≡ update.Refused r → updated p b v n f .pool ≡ p
+      go (Open o) q h = rw q
+      go (Leaf e) q h = tested (misplaced n (e .size)) refl
+        where
+          tested : (t : Bool) → misplaced n (e .size) ≡ t → updated p b v n f .pool ≡ p
+          tested true m = rw (q, m)
+          tested false m =
+              let some : update.Updated (e .size) ≡ update.Refused r = rw (q, m) at h in
+              let z : _≡_ {A = ℕ} 0 1 = cc in
+              absurd (omega arith)
+
+  pub map-refused : (used : ℕ) (s : PageSize) (pa f : ℕ) (r : Refusal) → mapped p b used v s pa f .result ≡ map.Refused r → mapped p b used v s pa f .pool ≡ p
+  map-refused used s pa f r = go (found p b v) refl
+    where
+      go : (k : Walk) → found p b v ≡ k → mapped p b used v s pa f .result ≡ map.Refused r → mapped p b used v s pa f .pool ≡ p
+      go (Leaf e) q h = rw q
+      go (Open o) q h = ⊎-elim (λ c. ap (λ (u : Mapping). u .pool) (table-there p b used v s pa f o q c)) (λ c. ⊎-elim
+          (λ d. ap (λ (u : Mapping). u .pool) (short p b used v s pa f o q c d))
+          (λ d. absurd (succeeds c d))
+          (below? (length p / 512 - used) (o .level - levelOf s))) (below? (o .level) (levelOf s))
+        where
+          succeeds : levelOf s ≤ o .level → o .level - levelOf s ≤ length p / 512 - used → ⊥
+          succeeds c d =
+              let some : map.Mapped (used + (o .level - levelOf s)) ≡ map.Refused r = sym (ap (λ (u : Mapping). u .result) (done p b used v s pa f o q c d)) ∙ h in
+              let z : _≡_ {A = ℕ} 0 1 = cc in
+              omega arith
+
 pub effects : (p : List ℕ) (base used v : ℕ) → Good p base used → Canonical 4 v → Effects p base used v
 effects p base used v G cv = record {
   queries = queries p base used v G;
@@ -241,4 +312,8 @@ effects p base used v G cv = record {
   unmaps = unmaps p base used v G cv;
   updates = updates p base used v G cv;
   maps = maps p base used v G cv;
+  map-answer = map-answer p base used v G;
+  unmap-refused = unmap-refused p (base / 4096) v;
+  update-refused = update-refused p (base / 4096) v;
+  map-refused = map-refused p (base / 4096) v used;
 }

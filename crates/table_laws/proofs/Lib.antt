@@ -2,3 +2,4 @@ pub mod Writes
 pub mod Grows
 pub mod Leaves
 pub mod Effects
+pub mod Processor

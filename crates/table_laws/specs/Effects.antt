@@ -23,6 +23,7 @@ use Rattle.table.specs.declared.UpdateResult.the-variants as update
 use Rattle.table.specs.declared.NewAddr.{NewAddr}
 use Rattle.table.specs.declared.NewFlags.{NewFlags}
 use Rattle.table_map.specs.Map.{leafFor, mapped}
+use Rattle.table_map.specs.declared.MapResult.{MapResult}
 use Rattle.table_map.specs.declared.MapResult.the-variants as map
 
 -- what the pool p at this base shows of v, and what it translates v to
@@ -44,6 +45,15 @@ pub record Adds (p p′ : List ℕ) (base used′ v t w : ℕ) : Type 0 where
   pub inside : (x : ℕ) → x / span t ≡ v / span t → showsIn p′ base x ≡ view t w
   pub outside : (x : ℕ) → Canonical 4 x → (x / span t ≡ v / span t → ⊥) → translatesIn p′ base x ≡ translatesIn p base x
 
+-- what a map of a page of level t answers, by what the table shows of v before: 7, 8 or success, one of them and no other
+pub data MapAnswer (p : List ℕ) (base used v t : ℕ) (r : MapResult) : Type 0 where
+  -- "a used entry, or a larger leaf over the page": a leaf ends the walk, or the walk goes on below the page's level
+  in-the-way : (l w : ℕ) → showsIn p base v ≡ view l w → (x86 .kind l w ≡ leaf) ⊎ (l < t) → r ≡ map.Refused AlreadyMapped → MapAnswer p base used v t r
+  -- "the pool is short": the tables from the unused entry down to the page are more than the free frames
+  short : (l : ℕ) → showsIn p base v ≡ view l 0 → t ≤ l → length p / 512 - used < l - t → r ≡ map.Refused NoFrames → MapAnswer p base used v t r
+  -- each of them takes a frame
+  done : (l : ℕ) → showsIn p base v ≡ view l 0 → t ≤ l → l - t ≤ length p / 512 - used → r ≡ map.Mapped (used + (l - t)) → MapAnswer p base used v t r
+
 -- For every well-formed table and every address of the two halves:
 pub record Effects (p : List ℕ) (base used v : ℕ) : Type 0 where
   -- query answers what the address translates to, and refuses exactly where that is nothing
@@ -58,3 +68,8 @@ pub record Effects (p : List ℕ) (base used v : ℕ) : Type 0 where
   -- map adds its page
   pub maps : (s : PageSize) (pa f used′ : ℕ) → pa + sizeOf s ≤ 2 ^ 52 → mapped p (base / 4096) used v s pa f .result ≡ map.Mapped used′
       → Adds p (mapped p (base / 4096) used v s pa f .pool) base used′ v (levelOf s) (leafFor s pa f)
+  pub map-answer : (s : PageSize) (pa f : ℕ) → MapAnswer p base used v (levelOf s) (mapped p (base / 4096) used v s pa f .result)
+  -- a refused call changes no word
+  pub unmap-refused : (r : Refusal) → unmapped p (base / 4096) v .result ≡ unmap.Refused r → unmapped p (base / 4096) v .pool ≡ p
+  pub update-refused : (n : NewAddr) (f : NewFlags) (r : Refusal) → updated p (base / 4096) v n f .result ≡ update.Refused r → updated p (base / 4096) v n f .pool ≡ p
+  pub map-refused : (s : PageSize) (pa f : ℕ) (r : Refusal) → mapped p (base / 4096) used v s pa f .result ≡ map.Refused r → mapped p (base / 4096) used v s pa f .pool ≡ p

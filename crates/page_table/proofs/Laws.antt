@@ -1,0 +1,111 @@
+-- What is proved of the table calls as a whole.
+use Prim.Native.Nat.{ℕ, _+_, _-_, _*_, _/_, _%_, _^_, _≤_, _<_}
+use mathlib.Core.Path.{_≡_, refl, sym, ap, _∙_}
+use mathlib.Core.Bool.{Bool, true, false}
+use mathlib.Core.Logic.{_⊎_, inl, inr, ⊎-elim}
+use mathlib.Core.List.{List}
+use native.Mathlib.Omega.{arith}
+use lib.Dec.{ltb}
+use borrow.Author.Tests.{ltb-true, ltb-false, lt-ltb, le-ltb}
+use Rattle.paging.specs.Choice.{pick, Answered, refused, taken}
+use Rattle.paging.specs.Level.{Canonical}
+use Rattle.paging.proofs.Cases.{only, no-truth}
+use Rattle.common.specs.Flags.{knownPage}
+use Rattle.common.specs.Page.{sizeOf}
+use Rattle.common.specs.declared.vm.PageSize.{PageSize}
+use Rattle.common.specs.declared.vm.PageSize.the-variants.{Size4K, Size2M, Size1G}
+use Rattle.form.specs.Form.{Good}
+use Rattle.refusal.specs.declared.Refusal.{Refusal}
+use Rattle.refusal.specs.declared.Refusal.the-variants.{InvalidArgs, BadAddress}
+use Rattle.table.specs.Table.{unmapped, Unmapping, updated, Updating}
+use Rattle.table.specs.declared.UnmapResult.the-variants as unmap
+use Rattle.table.specs.declared.UpdateResult.the-variants as update
+use Rattle.table.specs.declared.NewAddr.{NewAddr}
+use Rattle.table.specs.declared.NewFlags.{NewFlags}
+use Rattle.table_map.specs.Map.{mapped, Mapping}
+use Rattle.table_map.specs.declared.MapResult.the-variants as map
+use Rattle.table_laws.proofs.Effects.{unmap-refused, update-refused, map-refused}
+use Rattle.page_table.specs.Calls.{inRule, placed, knownNew, unmapCall, unmapRefused, updateCall, updateRefused, mapCall, mapRefused}
+use Rattle.page_table.specs.Laws.{UnmapFits, UpdateFits, MapFits, Laws}
+
+-- the two ranges of the rule
+data Ruled (v : ℕ) : Type 0 where
+  lower : v < 2 ^ 47 → Ruled v
+  upper : 0xffff800000000000 ≤ v → v < 0xffffffffc0000000 → Ruled v
+
+ruled : (v : ℕ) → inRule v ≡ true → Ruled v
+ruled v = go (ltb v (2 ^ 47)) (ltb v 0xffff800000000000) refl refl
+  where
+    go : (a b : Bool) → ltb v (2 ^ 47) ≡ a → ltb v 0xffff800000000000 ≡ b → pick a true (pick b false (ltb v 0xffffffffc0000000)) ≡ true → Ruled v
+    go true b e f h = lower (ltb-true v (2 ^ 47) e)
+    go false true e f h = no-truth h
+    go false false e f h = upper (ltb-false v 0xffff800000000000 f) (ltb-true v 0xffffffffc0000000 h)
+
+in-rule : (v : ℕ) → Ruled v → inRule v ≡ true
+in-rule v (lower h) = rw (lt-ltb v (2 ^ 47) h)
+in-rule v (upper h k) = rw (le-ltb v (2 ^ 47) (omega arith), le-ltb v 0xffff800000000000 h, lt-ltb v 0xffffffffc0000000 k)
+
+halves : (v : ℕ) → Ruled v → Canonical 4 v
+halves v (lower h) = inl h
+halves v (upper h k) = inr (omega arith, omega arith)
+
+-- both ranges begin and end at multiples of every size
+leaves : (s : PageSize) (x v : ℕ) → Ruled v → x / sizeOf s ≡ v / sizeOf s → Ruled x
+leaves Size4K x v (lower h) e = lower (omega arith)
+leaves Size4K x v (upper h k) e = upper (omega arith) (omega arith)
+leaves Size2M x v (lower h) e = lower (omega arith)
+leaves Size2M x v (upper h k) e = upper (omega arith) (omega arith)
+leaves Size1G x v (lower h) e = lower (omega arith)
+leaves Size1G x v (upper h k) e = upper (omega arith) (omega arith)
+
+module _ (p : List ℕ) (base used v : ℕ) where
+  unmap-call : (r : Refusal) → unmapCall p base v .result ≡ unmap.Refused r → unmapCall p base v .pool ≡ p
+  unmap-call r = go (inRule v)
+    where
+      go : (t : Bool) → pick t (unmapped p (base / 4096) v) (unmapRefused p BadAddress) .result ≡ unmap.Refused r → pick t (unmapped p (base / 4096) v) (unmapRefused p BadAddress) .pool ≡ p
+      go true h = unmap-refused p (base / 4096) v r h
+      go false h = refl
+
+  update-call : (n : NewAddr) (f : NewFlags) (r : Refusal) → updateCall p base v n f .result ≡ update.Refused r → updateCall p base v n f .pool ≡ p
+  update-call n f r = go (knownNew f) (inRule v)
+    where
+      go : (k t : Bool) → pick k (pick t (updated p (base / 4096) v n f) (updateRefused p BadAddress)) (updateRefused p InvalidArgs) .result ≡ update.Refused r
+          → pick k (pick t (updated p (base / 4096) v n f) (updateRefused p BadAddress)) (updateRefused p InvalidArgs) .pool ≡ p
+      go true true h = update-refused p (base / 4096) v n f r h
+      go true false h = refl
+      go false t h = refl
+
+  map-call : (pa : ℕ) (s : PageSize) (f : ℕ) (r : Refusal) → mapCall p base used v pa s f .result ≡ map.Refused r → mapCall p base used v pa s f .pool ≡ p
+  map-call pa s f r = go (knownPage f) (inRule v) (placed v pa s)
+    where
+      go : (k t x : Bool) → pick k (pick t (pick x (mapped p (base / 4096) used v s pa f) (mapRefused p InvalidArgs)) (mapRefused p BadAddress)) (mapRefused p InvalidArgs) .result ≡ map.Refused r
+          → pick k (pick t (pick x (mapped p (base / 4096) used v s pa f) (mapRefused p InvalidArgs)) (mapRefused p BadAddress)) (mapRefused p InvalidArgs) .pool ≡ p
+      go true true true h = map-refused p (base / 4096) v used s pa f r h
+      go true true false h = refl
+      go true false x h = refl
+      go false t x h = refl
+
+  unmap-keeps : (r : Refusal) (o : Unmapping) → UnmapFits p base used v o → o .result ≡ unmap.Refused r → o .pool ≡ p
+  unmap-keeps r o (refused n e) h = ap (λ (u : Unmapping). u .pool) e
+  unmap-keeps r o (taken g e) h = ap (λ (u : Unmapping). u .pool) e ∙ unmap-call r (sym (ap (λ (u : Unmapping). u .result) e) ∙ h)
+
+  update-keeps : (n : NewAddr) (f : NewFlags) (r : Refusal) (o : Updating) → UpdateFits p base used v n f o → o .result ≡ update.Refused r → o .pool ≡ p
+  update-keeps n f r o (refused m e) h = ap (λ (u : Updating). u .pool) e
+  update-keeps n f r o (taken g e) h = ap (λ (u : Updating). u .pool) e ∙ update-call n f r (sym (ap (λ (u : Updating). u .result) e) ∙ h)
+
+  map-keeps : (pa : ℕ) (s : PageSize) (f : ℕ) (r : Refusal) (o : Mapping) → MapFits p base used v pa s f o → o .result ≡ map.Refused r → o .pool ≡ p
+  map-keeps pa s f r o (refused m e) h = ap (λ (u : Mapping). u .pool) e
+  map-keeps pa s f r o (taken g e) h = ap (λ (u : Mapping). u .pool) e ∙ map-call pa s f r (sym (ap (λ (u : Mapping). u .result) e) ∙ h)
+
+  pub laws : Laws p base used v
+  laws = record {
+    query-once = λ a b. only;
+    unmap-once = λ a b. only;
+    update-once = λ n f a b. only;
+    map-once = λ pa s f a b. only;
+    unmap-keeps = unmap-keeps;
+    update-keeps = update-keeps;
+    map-keeps = map-keeps;
+    halves = λ h. halves v (ruled v h);
+    leaves = λ s x h e. in-rule x (leaves s x v (ruled v h) e);
+  }

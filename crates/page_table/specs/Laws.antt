@@ -1,0 +1,49 @@
+-- What is proved of the table calls as a whole.
+use Prim.Native.Nat.{ℕ, _+_, _-_, _*_, _/_, _%_, _^_}
+use mathlib.Core.Path.{_≡_}
+use mathlib.Core.Bool.{true}
+use mathlib.Core.List.{List}
+use Rattle.paging.specs.Choice.{Answered}
+use Rattle.paging.specs.Level.{Canonical}
+use Rattle.common.specs.Page.{sizeOf}
+use Rattle.common.specs.declared.vm.PageSize.{PageSize}
+use Rattle.form.specs.Form.{Good}
+use Rattle.refusal.specs.declared.Refusal.{Refusal}
+use Rattle.refusal.specs.declared.Refusal.the-variants.{BadTable}
+use Rattle.table.specs.Table.{Unmapping, Updating}
+use Rattle.table.specs.declared.QueryResult.{QueryResult}
+use Rattle.table.specs.declared.UnmapResult.the-variants as unmap
+use Rattle.table.specs.declared.UpdateResult.the-variants as update
+use Rattle.table.specs.declared.NewAddr.{NewAddr}
+use Rattle.table.specs.declared.NewFlags.{NewFlags}
+use Rattle.table_map.specs.Map.{Mapping}
+use Rattle.table_map.specs.declared.MapResult.the-variants as map
+use Rattle.page_table.specs.Calls.{inRule, queryRefused, queryCall, unmapRefused, unmapCall, updateRefused, updateCall, mapRefused, mapCall}
+
+-- an outcome that fits a call's promise, for each call: what the contracts of page_table/src say
+module _ (p : List ℕ) (base used : ℕ) where
+  abbrev pub QueryFits : ℕ → QueryResult → Type 0
+  QueryFits v o = Answered (Good p base used) (queryRefused BadTable) (queryCall p base v) o
+
+  abbrev pub UnmapFits : ℕ → Unmapping → Type 0
+  UnmapFits v o = Answered (Good p base used) (unmapRefused p BadTable) (unmapCall p base v) o
+
+  abbrev pub UpdateFits : ℕ → NewAddr → NewFlags → Updating → Type 0
+  UpdateFits v n f o = Answered (Good p base used) (updateRefused p BadTable) (updateCall p base v n f) o
+
+  abbrev pub MapFits : ℕ → ℕ → PageSize → ℕ → Mapping → Type 0
+  MapFits v pa s f o = Answered (Good p base used) (mapRefused p BadTable) (mapCall p base used v pa s f) o
+
+pub record Laws (p : List ℕ) (base used v : ℕ) : Type 0 where
+  -- no second outcome fits
+  pub query-once : (a b : QueryResult) → QueryFits p base used v a → QueryFits p base used v b → a ≡ b
+  pub unmap-once : (a b : Unmapping) → UnmapFits p base used v a → UnmapFits p base used v b → a ≡ b
+  pub update-once : (n : NewAddr) (f : NewFlags) (a b : Updating) → UpdateFits p base used v n f a → UpdateFits p base used v n f b → a ≡ b
+  pub map-once : (pa : ℕ) (s : PageSize) (f : ℕ) (a b : Mapping) → MapFits p base used v pa s f a → MapFits p base used v pa s f b → a ≡ b
+  -- an outcome that refuses leaves every word of the pool, whatever the pool is
+  pub unmap-keeps : (r : Refusal) (o : Unmapping) → UnmapFits p base used v o → o .result ≡ unmap.Refused r → o .pool ≡ p
+  pub update-keeps : (n : NewAddr) (f : NewFlags) (r : Refusal) (o : Updating) → UpdateFits p base used v n f o → o .result ≡ update.Refused r → o .pool ≡ p
+  pub map-keeps : (pa : ℕ) (s : PageSize) (f : ℕ) (r : Refusal) (o : Mapping) → MapFits p base used v pa s f o → o .result ≡ map.Refused r → o .pool ≡ p
+  -- the addresses that calls take are of the two halves, and with an address the whole leaf at it is taken, whatever its size
+  pub halves : inRule v ≡ true → Canonical 4 v
+  pub leaves : (s : PageSize) (x : ℕ) → inRule v ≡ true → x / sizeOf s ≡ v / sizeOf s → inRule x ≡ true
