@@ -1,10 +1,10 @@
 -- What a page size contributes: shown once by its level, and cited for all three.
-use Prim.Native.Nat.{ℕ, _+_, _-_, _*_, _/_, _%_, _^_, _≤_, _<_}
-use mathlib.Core.Path.{_≡_, refl, sym, ap, _∙_}
+use Prim.Native.Nat.{ℕ, _+_, _-_, _*_, _%_, _^_, _≤_, _<_}
+use mathlib.Core.Path.{_≡_, refl, ap, _∙_}
 use native.Mathlib.Omega.{arith}
 use native.Mathlib.Nat.{div-add-mod', mod-eq-of-lt}
 use lib.Bits.{bitAnd, and-mask, and-high}
-use lib.Pow.{pow-pos, pow-add, shr-lt}
+use lib.Pow.{pow-pos, shr-lt}
 use Rattle.paging.specs.Level.{span}
 use Rattle.common.specs.Page.{levelOf, sizeOf}
 use Rattle.common.specs.declared.vm.PageSize.{PageSize}

@@ -1,8 +1,8 @@
 -- Sets of flags as masks and as sums of their members.
-use Prim.Native.Nat.{ℕ, _+_, _-_, _*_, _/_, _%_, _^_}
-use mathlib.Core.Path.{_≡_, refl, sym, ap, _∙_}
+use Prim.Native.Nat.{ℕ, _+_, _-_, _*_, _/_, _%_}
+use mathlib.Core.Path.{_≡_, _∙_}
 use native.Mathlib.Omega.{arith}
-use lib.Bits.{bitAnd, and-mask, and-high}
+use lib.Bits.{bitAnd, and-high}
 use Rattle.common.specs.Flags.{ofFive}
 
 -- the five page flags are bits 2 to 6: one bit after the other

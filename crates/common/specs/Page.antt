@@ -1,9 +1,8 @@
 -- Page sizes. States document 01, 'Entries and translation': leaves of 4 KiB, 2 MiB and 1 GiB. What a size contributes to any
 -- proof is its level: the span of an entry there.
-use Prim.Native.Nat.{ℕ, _+_, _*_, _%_, _^_}
-use mathlib.Core.Path.{_≡_}
+use Prim.Native.Nat.{ℕ, _%_}
 use mathlib.Core.Bool.{Bool, true, false}
-use lib.Dec.{eqb, ltb}
+use lib.Dec.{eqb}
 use Rattle.paging.specs.Level.{span}
 use Rattle.common.specs.declared.vm.PageSize.{PageSize}
 use Rattle.common.specs.declared.vm.PageSize.the-variants.{Size4K, Size2M, Size1G}

@@ -1,20 +1,19 @@
 -- What is proved of the table calls as a whole.
-use Prim.Native.Nat.{ℕ, _+_, _-_, _*_, _/_, _%_, _^_, _≤_, _<_}
+use Prim.Native.Nat.{ℕ, _-_, _/_, _^_, _≤_, _<_}
 use mathlib.Core.Path.{_≡_, refl, sym, ap, _∙_}
 use mathlib.Core.Bool.{Bool, true, false}
-use mathlib.Core.Logic.{_⊎_, inl, inr, ⊎-elim}
+use mathlib.Core.Logic.{inl, inr}
 use mathlib.Core.List.{List}
 use native.Mathlib.Omega.{arith}
 use lib.Dec.{ltb}
 use borrow.Author.Tests.{ltb-true, ltb-false, lt-ltb, le-ltb}
-use Rattle.paging.specs.Choice.{pick, Answered, refused, taken}
+use Rattle.paging.specs.Choice.{pick, refused, taken}
 use Rattle.paging.specs.Level.{Canonical}
 use Rattle.paging.proofs.Cases.{only, no-truth}
 use Rattle.common.specs.Flags.{knownPage}
 use Rattle.common.specs.Page.{sizeOf}
 use Rattle.common.specs.declared.vm.PageSize.{PageSize}
 use Rattle.common.specs.declared.vm.PageSize.the-variants.{Size4K, Size2M, Size1G}
-use Rattle.form.specs.Form.{Good}
 use Rattle.refusal.specs.declared.Refusal.{Refusal}
 use Rattle.refusal.specs.declared.Refusal.the-variants.{InvalidArgs, BadAddress}
 use Rattle.table.specs.Table.{unmapped, Unmapping, updated, Updating}

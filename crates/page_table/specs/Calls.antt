@@ -1,6 +1,6 @@
 -- The four table calls, whole: every refusal in document 01's order ("13, .. unknown flag bits (1), 15, then the added argument tests for table
 -- calls (1), then the Rust's own order"), then the call on a well-formed table. 13 stands in the contracts: it goes by whether the pool is Good.
-use Prim.Native.Nat.{ℕ, _+_, _-_, _*_, _/_, _%_, _^_}
+use Prim.Native.Nat.{ℕ, _-_, _/_, _^_}
 use mathlib.Core.Bool.{Bool, true, false}
 use mathlib.Core.List.{List}
 use lib.Dec.{leb, ltb}

@@ -12,7 +12,6 @@ use table::UnmapResult;
 use table::UpdateResult;
 use table_map::MapResult;
 ghost use mathlib.Core.Path.{_≡_};
-ghost use Prim.Native.Nat.{_/_};
 ghost use Rattle.paging.specs.Choice.{Answered};
 ghost use Rattle.form.specs.Form.{Good};
 ghost use Rattle.refusal.specs.declared.Refusal.the-variants.{BadTable};

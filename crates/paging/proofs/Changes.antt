@@ -1,7 +1,6 @@
 -- What one changed entry does to a well-formed table: who sees it, and what keeps the table well formed.
 use Prim.Native.Nat.{ℕ, zero, suc, _+_, _-_, _*_, _/_, _%_, _^_, _<_, _≤_}
 use mathlib.Core.Path.{_≡_, refl, sym, ap, _∙_, subst}
-use mathlib.Core.Bool.{Bool, true, false}
 use mathlib.Core.Logic.{_⊎_, inl, inr, ⊎-elim}
 use native.Mathlib.Omega.{arith}
 use native.Mathlib.Nat.{div-div-eq-div-mul}
@@ -10,12 +9,12 @@ use lib.Dec.{eqb}
 use borrow.Author.Tests.{eq-eqb, ne-eqb}
 use Rattle.paging.specs.Choice.{pick}
 use Rattle.paging.specs.Level.{span, index, Canonical}
-use Rattle.paging.specs.Format.{Kind, nothing, leaf, table, Format, Entry}
-use Rattle.paging.specs.Table.{Hit, hit, walk, View, view, seen, shows, Formed}
-use Rattle.paging.specs.Way.{Opt, some, none, way}
+use Rattle.paging.specs.Format.{table, Format, Entry}
+use Rattle.paging.specs.Table.{hit, walk, view, seen, shows, Formed}
+use Rattle.paging.specs.Way.{some, way}
 use Rattle.paging.proofs.Cases.{same?, below?}
 use Rattle.paging.proofs.Levels.{indexes, index-lt}
-use Rattle.paging.proofs.Walks.{NoTable, table-inj, through, way-like, Ends, ends, ends-at, stands, on, way-in, others, elsewhere, way-kept}
+use Rattle.paging.proofs.Walks.{NoTable, table-inj, way-like, ends, ends-at, on, way-in, others, elsewhere, way-kept}
 
 -- of the levels from t to t + k either all indexes of two addresses agree, or one differs
 differ? : (t k v v′ : ℕ) → ((l : ℕ) → t ≤ l → l ≤ t + k → index l v ≡ index l v′) ⊎ ((l : ℕ) × (t ≤ l) × (l ≤ t + k) × (index l v ≡ index l v′ → ⊥))

@@ -1,15 +1,13 @@
 -- The laws of walks in a well-formed table: a write at one place changes no walk that does not go by that place.
-use Prim.Native.Nat.{ℕ, zero, suc, _+_, _-_, _*_, _/_, _%_, _<_, _≤_}
+use Prim.Native.Nat.{ℕ, zero, suc, _+_, _-_, _<_, _≤_}
 use mathlib.Core.Path.{_≡_, refl, sym, ap, _∙_, subst}
-use mathlib.Core.Bool.{Bool, true, false}
-use mathlib.Core.Logic.{_⊎_, inl, inr, ⊎-elim}
+use mathlib.Core.Logic.{_⊎_, ⊎-elim}
 use native.Mathlib.Omega.{arith}
 use native.Mathlib.Nat.{not-suc-le-zero, eq-or-lt-of-le, le-of-suc-le-suc}
-use Rattle.paging.specs.Level.{span, index}
-use Rattle.paging.specs.Format.{Kind, nothing, leaf, table, byKind, Format}
+use Rattle.paging.specs.Level.{index}
+use Rattle.paging.specs.Format.{Kind, nothing, leaf, table, Format}
 use Rattle.paging.specs.Table.{Hit, hit, walk, Formed}
-use Rattle.paging.specs.Way.{Opt, some, none, thenTable, way}
-use Rattle.paging.proofs.Cases.{same?}
+use Rattle.paging.specs.Way.{Opt, some, none, way}
 use Rattle.paging.proofs.Levels.{index-lt}
 
 pub table-inj : {m n : ℕ} → table m ≡ table n → m ≡ n

@@ -3,9 +3,9 @@
 --
 -- In this order: what a word can be, a format, the laws that it has to meet, the words that its rules write, the test for
 -- them, the pieces of a split leaf, and the theorems that hold of every format that meets the laws.
-use Prim.Native.Nat.{ℕ, zero, suc, _+_, _-_, _*_, _/_, _%_, _^_, _≤_, _<_}
+use Prim.Native.Nat.{ℕ, suc, _+_, _-_, _*_, _%_, _^_, _≤_, _<_}
 use mathlib.Core.Path.{_≡_}
-use mathlib.Core.Bool.{Bool, true, false, _&&_}
+use mathlib.Core.Bool.{Bool, _&&_}
 use lib.Dec.{eqb, ltb}
 use Rattle.paging.specs.Choice.{Decided}
 use Rattle.paging.specs.Level.{span, index}

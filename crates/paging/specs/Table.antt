@@ -9,10 +9,10 @@
 --                                +---> page of 1 GiB
 --
 -- In this order: where a walk ends, what is seen there, what an address translates to, and when a table is well formed.
-use Prim.Native.Nat.{ℕ, zero, suc, _+_, _-_, _*_, _/_, _%_, _≤_, _<_}
+use Prim.Native.Nat.{ℕ, zero, suc, _+_, _-_, _%_, _<_}
 use mathlib.Core.Path.{_≡_}
 use Rattle.paging.specs.Level.{span, index}
-use Rattle.paging.specs.Format.{Kind, nothing, leaf, table, byKind, Format, Entry}
+use Rattle.paging.specs.Format.{table, byKind, Format, Entry}
 
 -- an entry: its level, its frame and its place in the frame
 pub data Hit : Type 0 where

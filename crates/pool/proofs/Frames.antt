@@ -1,11 +1,11 @@
 -- Laws of a frame's part of the pool.
-use Prim.Native.Nat.{ℕ, _+_, _-_, _*_, _≤_, _<_, min}
-use mathlib.Core.Path.{_≡_, refl, sym, ap, _∙_}
+use Prim.Native.Nat.{ℕ, _+_, _-_, _*_, _≤_, _<_}
+use mathlib.Core.Path.{_≡_, ap, _∙_}
 use mathlib.Core.List.{List, _++_, append-nil}
 use native.Mathlib.Omega.{arith}
-use lib.ListN.{length, take, drop, getD, set, replicate, length-take, length-drop, length-replicate}
+use lib.ListN.{length, take, drop, getD, set, replicate, length-take, length-drop}
 use lib.Seq.{getD-take, getD-drop, drop-drop, drop-length}
-use borrow.Rule.Slice.PartMut.{putMid, midOf, set-mid-at}
+use borrow.Rule.Slice.PartMut.{putMid, set-mid-at}
 use Rattle.pool.specs.Pool.{frameAt, word, putWord, zeroed}
 
 pub width : (i : ℕ) → i * 512 + 512 - i * 512 ≡ 512

@@ -1,10 +1,10 @@
 -- The pool as memory, after one word is written and after one frame is zeroed.
 use Prim.Native.Nat.{ℕ, _+_, _-_, _*_, _≤_, _<_}
-use mathlib.Core.Path.{_≡_, refl, sym, ap, _∙_}
+use mathlib.Core.Path.{_≡_, sym, ap, _∙_}
 use mathlib.Core.List.{List, _++_}
 use native.Mathlib.Omega.{arith}
 use native.Mathlib.Nat.{add-sub-cancel-left}
-use lib.ListN.{length, take, drop, getD, set, replicate, length-append, length-take, length-drop, length-replicate, getD-replicate, List·getD-append}
+use lib.ListN.{length, take, drop, getD, replicate, length-append, length-take, length-drop, length-replicate, getD-replicate, List·getD-append}
 use lib.Seq.{getD-take, getD-append-add, getD-set-same, getD-set-other}
 use Rattle.pool.specs.Pool.{word, putWord, zeroed, memOf}
 

@@ -1,20 +1,14 @@
 -- The definitions of the four calls, by what the walk found.
-use Prim.Native.Nat.{ℕ, _+_, _-_, _*_, _/_, _%_, _^_, _≤_, _<_}
-use mathlib.Core.Path.{_≡_, refl, sym, ap, _∙_, subst}
-use mathlib.Core.Bool.{Bool, true, false}
+use Prim.Native.Nat.{ℕ, _+_, _-_, _%_}
+use mathlib.Core.Path.{_≡_}
+use mathlib.Core.Bool.{true, false}
 use mathlib.Core.List.{List}
-use native.Mathlib.Omega.{arith}
-use lib.ListN.{length}
-use Rattle.paging.proofs.Levels.{index-lt}
 use Rattle.common.specs.Page.{sizeOf}
 use Rattle.x86_64.specs.Entry.{addrOf, flagsOf}
 use Rattle.pool.specs.Pool.{word, putWord}
-use Rattle.form.specs.Form.{Good}
 use Rattle.walk.specs.Walk.{found}
-use Rattle.walk.specs.declared.Walk.the-variants.{Leaf, Open}
+use Rattle.walk.specs.declared.Walk.the-variants.{Leaf}
 use Rattle.walk.specs.declared.LeafEntry.{LeafEntry}
-use Rattle.walk.specs.declared.OpenEntry.{OpenEntry}
-use Rattle.walk.proofs.Found.{over, unused}
 use Rattle.refusal.specs.declared.Refusal.the-variants.{InvalidArgs}
 use Rattle.table.specs.Table.{queried, unmapped, misplaced, newWord, updated}
 use Rattle.table.specs.declared.QueryResult.the-variants as query

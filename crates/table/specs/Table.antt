@@ -1,15 +1,15 @@
 -- What the four calls do to a well-formed table, after document 01 and the Rust: the answer and every word of the pool. `found` is the end of the
 -- address's walk (walk/specs/Walk).
-use Prim.Native.Nat.{ℕ, zero, suc, _+_, _-_, _*_, _/_, _%_, _^_}
+use Prim.Native.Nat.{ℕ, _+_, _-_, _%_, _^_}
 use mathlib.Core.Bool.{Bool, true, false}
 use mathlib.Core.List.{List}
-use lib.Dec.{eqb, ltb}
+use lib.Dec.{ltb}
 use Rattle.paging.specs.Choice.{pick}
 use Rattle.common.specs.Page.{sizeOf, aligned, isHuge}
 use Rattle.common.specs.declared.vm.PageSize.{PageSize}
 use Rattle.x86_64.specs.Entry.{addrOf, flagsOf, leafBy}
 use Rattle.pool.specs.Pool.{word, putWord}
-use Rattle.refusal.specs.declared.Refusal.the-variants.{InvalidArgs, NotMapped, AlreadyMapped, NoFrames}
+use Rattle.refusal.specs.declared.Refusal.the-variants.{InvalidArgs, NotMapped}
 use Rattle.walk.specs.Walk.{found}
 use Rattle.walk.specs.declared.Walk.{Walk}
 use Rattle.walk.specs.declared.Walk.the-variants.{Leaf, Open}

@@ -10,11 +10,8 @@ use walk::OpenEntry;
 use walk::Walk;
 use x86_64::vm::X86PTE;
 ghost use mathlib.Core.Path.{_≡_};
-ghost use Prim.Native.Nat.{_+_, _-_, _*_, _/_, _%_, _^_, _≤_, _<_};
-ghost use lib.ListN.{length};
-ghost use Rattle.common.specs.Page.{levelOf, sizeOf};
+ghost use Prim.Native.Nat.{_/_};
 ghost use Rattle.form.specs.Form.{Good};
-ghost use Rattle.pool.specs.Pool.{putWord};
 ghost use Rattle.table.specs.Table.{queried, unmapped, updated, misplaced, newAddr, newWord};
 
 pub enum QueryResult {

@@ -1,27 +1,24 @@
 -- What the four calls mean for every address.
-use Prim.Native.Nat.{ℕ, zero, suc, _+_, _-_, _*_, _/_, _%_, _^_, _≤_, _<_}
+use Prim.Native.Nat.{ℕ, zero, suc, _+_, _-_, _/_, _%_, _^_, _≤_, _<_}
 use mathlib.Core.Path.{_≡_, refl, sym, ap, _∙_, subst}
 use mathlib.Core.Bool.{Bool, true, false}
 use mathlib.Core.Logic.{inl, inr, ⊎-elim}
 use mathlib.Core.List.{List}
 use native.Mathlib.Omega.{arith}
-use lib.Dec.{lit<}
 use lib.ListN.{length}
 use Rattle.paging.specs.Level.{span, index, Canonical}
-use Rattle.paging.specs.Format.{Kind, nothing, leaf, table, byKind, Entry, blank, page}
-use Rattle.paging.specs.Table.{View, view, shows, Translation, to, nowhere, translated, translates}
+use Rattle.paging.specs.Format.{Kind, byKind, blank, page}
+use Rattle.paging.specs.Table.{view, Translation, to, nowhere, translated, translates}
 use Rattle.paging.proofs.Cases.{below?}
-use Rattle.paging.proofs.Walks.{NoTable, nothing-bar, leaf-bar}
-use Rattle.paging.proofs.Formats.{Is, is, entry-of}
-use Rattle.common.specs.Page.{levelOf, sizeOf, aligned, isHuge}
+use Rattle.paging.proofs.Walks.{nothing-bar, leaf-bar}
+use Rattle.common.specs.Page.{levelOf, sizeOf}
 use Rattle.common.specs.declared.defs.MMUFlags.{MMUFlags}
 use Rattle.common.specs.declared.vm.PageSize.{PageSize}
-use Rattle.common.specs.declared.vm.PageSize.the-variants.{Size4K, Size2M, Size1G}
-use Rattle.x86_64.specs.Entry.{addrOf, flagsOf, leafBy, x86}
+use Rattle.x86_64.specs.Entry.{addrOf, flagsOf, x86}
 use Rattle.x86_64.proofs.Format.{lawful}
-use Rattle.pool.specs.Pool.{word, putWord, memOf, Taken}
+use Rattle.pool.specs.Pool.{word, putWord, memOf}
 use Rattle.pool.proofs.Memory.{mem-at}
-use Rattle.form.specs.Form.{WellFormed, Good}
+use Rattle.form.specs.Form.{Good}
 use Rattle.refusal.specs.declared.Refusal.{Refusal}
 use Rattle.refusal.specs.declared.Refusal.the-variants.{InvalidArgs, NotMapped, AlreadyMapped, NoFrames}
 use Rattle.walk.specs.Walk.{sizeAt, found}
@@ -29,11 +26,10 @@ use Rattle.walk.specs.declared.Walk.{Walk}
 use Rattle.walk.specs.declared.Walk.the-variants.{Leaf, Open}
 use Rattle.walk.specs.declared.LeafEntry.{LeafEntry}
 use Rattle.walk.specs.declared.OpenEntry.{OpenEntry}
-use Rattle.walk.proofs.Found.{Placed, Over, over, Unused, unused}
+use Rattle.walk.proofs.Found.{Placed, over, unused}
 use Rattle.table.specs.Table.{queried, unmapped, Unmapping, misplaced, newWord, updated, Updating}
 use Rattle.table.specs.declared.QueryResult.{QueryResult}
 use Rattle.table.specs.declared.QueryResult.the-variants as query
-use Rattle.table.specs.declared.UnmapResult.{UnmapResult}
 use Rattle.table.specs.declared.UnmapResult.the-variants as unmap
 use Rattle.table.specs.declared.UpdateResult.the-variants as update
 use Rattle.table.specs.declared.NewAddr.{NewAddr}

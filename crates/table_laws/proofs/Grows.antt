@@ -1,22 +1,20 @@
 -- Tables put under an unused entry, and the page in the last: what a map does.
-use Prim.Native.Nat.{ℕ, zero, suc, _+_, _-_, _*_, _/_, _%_, _^_, _≤_, _<_}
+use Prim.Native.Nat.{ℕ, zero, suc, _+_, _-_, _*_, _/_, _^_, _≤_, _<_}
 use mathlib.Core.Path.{_≡_, refl, sym, ap, _∙_, subst}
 use mathlib.Core.Logic.{_⊎_, inl, inr, ⊎-elim}
 use mathlib.Core.List.{List}
 use native.Mathlib.Omega.{arith}
-use native.Mathlib.Nat.{not-suc-le-zero}
-use native.Mathlib.Numerals.{add-one, sub-one}
 use lib.Dec.{lit<}
 use lib.ListN.{length, length-set}
 use Rattle.paging.specs.Level.{span, index, Canonical}
-use Rattle.paging.specs.Format.{Kind, nothing, leaf, table, Entry, blank, pointer, page}
-use Rattle.paging.specs.Table.{Hit, hit, walk, View, view, shows, Translation, to, nowhere, translated, translates}
+use Rattle.paging.specs.Format.{table, Entry, blank, pointer}
+use Rattle.paging.specs.Table.{hit, walk, view, shows, nowhere, translated, translates}
 use Rattle.paging.proofs.Cases.{same?, below?}
-use Rattle.paging.proofs.Levels.{index-lt, above}
-use Rattle.paging.proofs.Walks.{NoTable, nothing-bar, leaf-bar}
+use Rattle.paging.proofs.Levels.{index-lt}
+use Rattle.paging.proofs.Walks.{NoTable, nothing-bar}
 use Rattle.paging.proofs.Changes.{End, end, outside, inside, grown-walk, grown, formed-grow}
 use Rattle.x86_64.specs.Entry.{tableWord, x86}
-use Rattle.x86_64.proofs.Format.{lawful, unused-entry}
+use Rattle.x86_64.proofs.Format.{lawful}
 use Rattle.pool.specs.Pool.{word, putWord, zeroed, memOf, Taken}
 use Rattle.pool.proofs.Memory.{mem-at, put-same, put-other, zeroed-length, zeroed-before, zeroed-in}
 use Rattle.form.specs.Form.{WellFormed}

@@ -1,14 +1,13 @@
 -- The words that `update` and `map` write are leaves of their level.
-use Prim.Native.Nat.{ℕ, zero, suc, _+_, _-_, _*_, _/_, _%_, _^_, _≤_, _<_}
+use Prim.Native.Nat.{ℕ, _+_, _-_, _*_, _/_, _%_, _^_, _≤_, _<_}
 use mathlib.Core.Path.{_≡_, refl, sym, ap, _∙_, subst}
 use mathlib.Core.Bool.{Bool, true, false}
 use native.Mathlib.Omega.{arith}
-use native.Mathlib.Nat.{div-add-mod', mul-mod-left, mod-lt}
-use lib.Dec.{eqb, ltb, lit<}
+use native.Mathlib.Nat.{div-add-mod', mul-mod-left}
+use lib.Dec.{lit<}
 use borrow.Author.Tests.{eqb-true, ltb-false}
-use Rattle.paging.specs.Choice.{pick}
 use Rattle.paging.specs.Level.{span}
-use Rattle.paging.specs.Format.{Kind, leaf, Entry, page}
+use Rattle.paging.specs.Format.{leaf, Entry, page}
 use Rattle.paging.proofs.Cases.{no-truth}
 use Rattle.paging.proofs.Levels.{page-of}
 use Rattle.paging.proofs.Formats.{IsLeaf, Is, is}

@@ -1,6 +1,6 @@
 -- `query` against the processor.
-use Prim.Native.Nat.{ℕ, zero, suc, _+_, _-_, _*_, _/_, _%_, _^_, _≤_, _<_}
-use mathlib.Core.Path.{_≡_, refl, sym, ap, _∙_, subst}
+use Prim.Native.Nat.{ℕ, _+_, _-_, _*_, _/_, _%_}
+use mathlib.Core.Path.{_≡_, refl, sym, ap, _∙_}
 use mathlib.Core.Bool.{Bool, true, false}
 use mathlib.Core.List.{List}
 use native.Mathlib.Omega.{arith}
@@ -8,13 +8,12 @@ use Rattle.paging.specs.Choice.{pick}
 use Rattle.paging.specs.Level.{span}
 use Rattle.paging.specs.Format.{Kind, leaf, byKind}
 use Rattle.paging.specs.Table.{shows}
-use Rattle.common.specs.Flags.{READ, has}
 use Rattle.common.specs.Page.{sizeOf}
 use Rattle.common.specs.declared.defs.MMUFlags.{MMUFlags}
 use Rattle.common.specs.declared.vm.PageSize.{PageSize}
 use Rattle.x86_64.specs.Entry.{addrOf, flagsOf, isPresent, kindAt, x86}
 use Rattle.intel.specs.Intel.{Rights, Answer, fault, maps, intel}
-use Rattle.intel.specs.Agrees.{rightsOf, asIntel, Stored, SameRights, Agrees}
+use Rattle.intel.specs.Agrees.{rightsOf, asIntel, Stored, Agrees}
 use Rattle.intel.proofs.Agree.{agreement}
 use Rattle.pool.specs.Pool.{word, memOf, Taken}
 use Rattle.form.specs.Form.{Good}

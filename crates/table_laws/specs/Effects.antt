@@ -1,6 +1,6 @@
 -- What the four calls on a well-formed table mean for every address: theorems about the definitions of table/specs/Table and
 -- table_map/specs/Map. `shows` is the level and the word at the end of an address's walk, `translates` its frame and rights.
-use Prim.Native.Nat.{ℕ, _+_, _-_, _*_, _/_, _%_, _^_, _≤_, _<_}
+use Prim.Native.Nat.{ℕ, _+_, _-_, _/_, _^_, _≤_, _<_}
 use mathlib.Core.Path.{_≡_}
 use mathlib.Core.Logic.{_⊎_}
 use mathlib.Core.List.{List}

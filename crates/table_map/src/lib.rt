@@ -9,7 +9,7 @@ use walk::OpenEntry;
 use walk::Walk;
 use x86_64::vm::X86PTE;
 ghost use mathlib.Core.Path.{_≡_};
-ghost use Prim.Native.Nat.{_+_, _-_, _*_, _/_, _%_, _^_, _≤_, _<_};
+ghost use Prim.Native.Nat.{_+_, _-_, _*_, _/_, _≤_, _<_};
 ghost use lib.ListN.{length};
 ghost use Rattle.common.specs.Page.{levelOf};
 ghost use Rattle.form.specs.Form.{Good};

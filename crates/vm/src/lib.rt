@@ -2,7 +2,7 @@
 use common::defs::PAGE_SIZE;
 use std::num::wrapping_add_u64;
 ghost use mathlib.Core.Path.{_≡_};
-ghost use Prim.Native.Nat.{_-_, _*_, _/_, _%_};
+ghost use Prim.Native.Nat.{_-_, _*_, _%_};
 ghost use Rattle.vm.specs.Align.{multiple, needed};
 
 // Whether `x` is a multiple of `PAGE_SIZE`.

@@ -1,6 +1,6 @@
 -- What the walk's answer says of the table: a leaf with its entry, or an unused entry.
-use Prim.Native.Nat.{ℕ, zero, suc, _+_, _-_, _*_, _/_, _%_, _^_, _≤_, _<_}
-use mathlib.Core.Path.{_≡_, refl, sym, ap, _∙_, subst}
+use Prim.Native.Nat.{ℕ, _+_, _-_, _*_, _/_, _≤_, _<_}
+use mathlib.Core.Path.{_≡_, refl, sym, subst}
 use mathlib.Core.Bool.{Bool, true, false}
 use mathlib.Core.List.{List}
 use native.Mathlib.Omega.{arith}
@@ -8,10 +8,10 @@ use lib.ListN.{length}
 use borrow.Author.Tests.{eqb-true}
 use Rattle.paging.specs.Choice.{pick}
 use Rattle.paging.specs.Level.{index}
-use Rattle.paging.specs.Format.{Kind, nothing, leaf, table, Entry}
-use Rattle.paging.specs.Table.{Hit, hit, walk}
+use Rattle.paging.specs.Format.{leaf, Entry}
+use Rattle.paging.specs.Table.{Hit}
 use Rattle.paging.proofs.Levels.{index-lt}
-use Rattle.paging.proofs.Formats.{Is, is}
+use Rattle.paging.proofs.Formats.{is}
 use Rattle.paging.proofs.Changes.{End, end}
 use Rattle.x86_64.specs.Entry.{frameOf, isUnused, isLeaf, x86}
 use Rattle.x86_64.proofs.Format.{lawful, leaf-entry, table-entry}

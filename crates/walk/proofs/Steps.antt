@@ -1,14 +1,13 @@
 -- One step of the walk in a well-formed pool: where it stands, how it goes on, and where it stops.
-use Prim.Native.Nat.{ℕ, zero, suc, _+_, _-_, _*_, _/_, _%_, _^_, _≤_, _<_}
-use mathlib.Core.Path.{_≡_, refl, sym, ap, _∙_, subst}
-use mathlib.Core.Bool.{Bool, true, false}
+use Prim.Native.Nat.{ℕ, suc, _+_, _-_, _≤_, _<_}
+use mathlib.Core.Path.{_≡_, sym, ap, _∙_, subst}
+use mathlib.Core.Bool.{true, false}
 use mathlib.Core.List.{List}
 use native.Mathlib.Omega.{arith}
 use native.Mathlib.Nat.{add-sub-cancel-left}
-use lib.ListN.{length}
 use Rattle.paging.specs.Level.{index}
-use Rattle.paging.specs.Format.{Kind, nothing, leaf, table, Entry}
-use Rattle.paging.specs.Table.{Hit, hit, walk, Formed}
+use Rattle.paging.specs.Format.{table, Entry}
+use Rattle.paging.specs.Table.{hit, walk}
 use Rattle.paging.specs.Way.{some, way}
 use Rattle.paging.proofs.Levels.{index-lt}
 use Rattle.paging.proofs.Walks.{NoTable, leaf-bar, nothing-bar, way-in, ends-at, on}

@@ -1,14 +1,13 @@
 -- x86-64 entries meet what walking and splitting need of a format.
-use Prim.Native.Nat.{ℕ, zero, suc, _+_, _-_, _*_, _/_, _%_, _^_, _≤_, _<_}
-use mathlib.Core.Path.{_≡_, refl, sym, ap, _∙_, subst}
+use Prim.Native.Nat.{ℕ, _-_, _*_, _/_, _%_, _^_, _≤_, _<_}
+use mathlib.Core.Path.{_≡_, refl, ap, _∙_, subst}
 use mathlib.Core.Bool.{Bool, true, false, _&&_}
 use native.Mathlib.Omega.{arith}
-use native.Mathlib.Nat.{div-add-mod'}
 use lib.Dec.{eqb, ltb, leb, lit≤}
 use borrow.Author.Tests.{eq-eqb, ne-eqb, le-leb, lt-leb, lt-ltb, leb-true, ltb-true, eqb-true, eqb-false}
 use Rattle.paging.specs.Choice.{pick, Decided}
 use Rattle.paging.specs.Level.{span}
-use Rattle.paging.specs.Format.{Kind, nothing, leaf, table, Format, LeafReads, Lawful, Entry, written, Formats}
+use Rattle.paging.specs.Format.{nothing, leaf, table, LeafReads, Lawful, Entry, written, Formats}
 use Rattle.paging.proofs.Cases.{both}
 use Rattle.paging.proofs.Levels.{page-of}
 use Rattle.paging.proofs.Formats.{Is, is, formats}

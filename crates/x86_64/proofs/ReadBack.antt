@@ -1,20 +1,18 @@
 -- What is proved of entry words, by page size.
-use Prim.Native.Nat.{ℕ, zero, suc, _+_, _-_, _*_, _/_, _%_, _^_, _≤_, _<_, min}
-use mathlib.Core.Path.{_≡_, refl, sym, ap, _∙_, subst}
-use mathlib.Core.Bool.{Bool, true, false, _&&_}
+use Prim.Native.Nat.{ℕ, _+_, _-_, _*_, _/_, _%_, _^_, _<_, min}
+use mathlib.Core.Path.{_≡_, refl, sym, ap, _∙_}
+use mathlib.Core.Bool.{Bool, true, false}
 use native.Mathlib.Omega.{arith}
-use lib.Dec.{eqb, ltb, leb}
-use borrow.Author.Tests.{eq-eqb, ne-eqb, eqb-true, eqb-false}
-use Rattle.paging.specs.Level.{span}
-use Rattle.paging.specs.Format.{Kind, nothing, leaf, table, Entry}
+use lib.Dec.{eqb, ltb}
+use borrow.Author.Tests.{eq-eqb, ne-eqb, eqb-true}
+use Rattle.paging.specs.Format.{leaf, table, Entry}
 use Rattle.paging.proofs.Levels.{page-of}
-use Rattle.paging.proofs.Formats.{Is, is}
 use Rattle.common.specs.Flags.{READ, WRITE, EXECUTE, USER, HUGE_PAGE, has, ofFive, knownPage}
 use Rattle.common.specs.Page.{levelOf, sizeOf, isHuge}
 use Rattle.common.specs.declared.vm.PageSize.{PageSize}
 use Rattle.common.specs.declared.vm.PageSize.the-variants.{Size4K, Size2M, Size1G}
-use Rattle.common.proofs.Pages.{size-span, level-le}
-use Rattle.x86_64.specs.Entry.{bit, frameOf, addrOf, marksOf, flagsOf, isUnused, isLeaf, anyRight, granted, leafBy, tableWord, kindAt, x86}
+use Rattle.common.proofs.Pages.{size-span}
+use Rattle.x86_64.specs.Entry.{bit, frameOf, addrOf, marksOf, flagsOf, isUnused, isLeaf, granted, leafBy, tableWord, x86}
 use Rattle.x86_64.specs.ReadBack.{ShowsLeaf, ShowsTable, ReadBack}
 use Rattle.x86_64.proofs.Words.{table-parts, leaf-word, leaf-flags, with-marks}
 use Rattle.x86_64.proofs.Format.{lawful, x86-formats, leaf-entry, table-entry}

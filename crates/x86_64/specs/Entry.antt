@@ -1,6 +1,6 @@
 -- Entry words on x86-64. States document 01, 'Entries and translation', sentence by sentence, and gathers them as one format.
 use Prim.Native.Nat.{ℕ, _+_, _-_, _*_, _/_, _%_, _^_, min}
-use mathlib.Core.Bool.{Bool, true, false, _&&_}
+use mathlib.Core.Bool.{Bool, _&&_}
 use lib.Dec.{eqb, ltb, leb}
 use Rattle.paging.specs.Choice.{pick}
 use Rattle.paging.specs.Format.{Kind, nothing, leaf, table, Format}

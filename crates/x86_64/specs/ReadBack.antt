@@ -1,7 +1,7 @@
 -- What is proved of entry words: "reading back" of document 01, 'Entries and translation', for every set of flags, address and size.
-use Prim.Native.Nat.{ℕ, _+_, _-_, _*_, _/_, _%_, _^_, _≤_, _<_}
+use Prim.Native.Nat.{ℕ, _+_, _-_, _*_, _%_, _^_, _<_}
 use mathlib.Core.Path.{_≡_}
-use mathlib.Core.Bool.{Bool, true, false}
+use mathlib.Core.Bool.{true, false}
 use lib.Dec.{eqb}
 use Rattle.paging.specs.Format.{Entry, Lawful, Formats}
 use Rattle.common.specs.Flags.{READ, HUGE_PAGE, has, knownPage}

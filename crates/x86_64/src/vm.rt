@@ -9,7 +9,7 @@ use common::defs::MMUFlags;
 use common::defs::PhysAddr;
 use common::vm::PageSize;
 ghost use mathlib.Core.Path.{_≡_};
-ghost use Prim.Native.Nat.{_+_, _-_, _*_, _/_, _%_, _^_};
+ghost use Prim.Native.Nat.{_+_, _-_, _*_, _%_, _^_};
 ghost use Rattle.paging.specs.Choice.{Decided};
 ghost use Rattle.paging.specs.Format.{Entry};
 ghost use Rattle.common.specs.Page.{sizeOf, aligned, isHuge};

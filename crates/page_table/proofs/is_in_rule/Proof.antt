@@ -1,8 +1,6 @@
 -- `is_in_rule`: the tests in order.
-use Prim.Native.Nat.{ℕ, _+_, _-_, _*_, _/_, _%_, _^_, _≤_, _<_}
-use mathlib.Core.Path.{_≡_, refl, sym, ap, _∙_}
+use Prim.Native.Nat.{_-_, _^_}
 use borrow.Author.Tests.{lt-ltb, le-ltb}
-use Rattle.page_table.specs.Calls.{inRule}
 use Rattle.page_table.proofs.is_in_rule.Statement.{statement}
 use Rattle.page_table.proofs.is_in_rule.Tie as tie
 

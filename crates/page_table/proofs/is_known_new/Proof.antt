@@ -1,6 +1,6 @@
 -- `is_known_new`: flags that are kept are known.
-use Prim.Native.Nat.{ℕ, _+_, _-_, _*_, _/_, _%_, _^_, _≤_, _<_}
-use mathlib.Core.Path.{_≡_, refl, sym, ap, _∙_}
+use Prim.Native.Nat.{_-_}
+use mathlib.Core.Path.{sym, ap, _∙_}
 use borrow.Author.Needs.{needs}
 use Rattle.page_table.specs.Calls.{knownNew}
 use Rattle.page_table.proofs.is_known_new.Statement.{statement}

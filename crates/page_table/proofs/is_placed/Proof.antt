@@ -1,15 +1,13 @@
 -- `is_placed`: aligned, and its end by 2^52.
-use Prim.Native.Nat.{ℕ, _+_, _-_, _*_, _/_, _%_, _^_, _≤_, _<_}
-use mathlib.Core.Path.{_≡_, refl, sym, ap, _∙_}
-use mathlib.Core.Bool.{Bool, true, false}
+use Prim.Native.Nat.{ℕ, _-_, _^_}
+use mathlib.Core.Path.{_≡_, sym, ap, _∙_}
+use mathlib.Core.Bool.{true, false}
 use native.Mathlib.Omega.{arith}
 use lib.Dec.{leb}
 use borrow.Author.Needs.{needs}
 use borrow.Author.Tests.{not-true, not-false}
-use Rattle.paging.specs.Choice.{pick}
-use Rattle.common.specs.Page.{sizeOf, aligned}
+use Rattle.common.specs.Page.{aligned}
 use Rattle.common.proofs.Pages.{size-le}
-use Rattle.page_table.specs.Calls.{placed}
 use Rattle.page_table.proofs.is_placed.Statement.{statement}
 use Rattle.page_table.proofs.is_placed.Tie as tie
 

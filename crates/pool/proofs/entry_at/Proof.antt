@@ -1,10 +1,10 @@
 -- `entry_at`: a word of the part is a word of the pool.
-use Rattle.pool.proofs.Frames.{width, frame-length, frame-at, put-at, put-zero}
+use Rattle.pool.proofs.Frames.{frame-length, frame-at}
 use native.Mathlib.Omega.{arith}
-use mathlib.Core.Path.{_≡_, ap, sym, _∙_, refl}
+use mathlib.Core.Path.{ap, _∙_}
 use mathlib.Core.List.{List}
 use Prim.Native.Nat.{ℕ}
-use lib.ListN.{take, drop, length, getD}
+use lib.ListN.{length, getD}
 use denote.Ref.{now}
 use borrow.Author.Needs.{needs}
 use Rattle.pool.proofs.entry_at.Statement.{statement}

@@ -1,10 +1,5 @@
 -- `set_entry`: a word written in the part is written in the pool.
-use Rattle.pool.proofs.Frames.{width, frame-length, frame-at, put-at, put-zero}
-use native.Mathlib.Omega.{arith}
-use mathlib.Core.Path.{_≡_, ap, sym, _∙_, refl}
-use mathlib.Core.List.{List}
-use Prim.Native.Nat.{ℕ}
-use lib.ListN.{take, drop, length, getD}
+use Rattle.pool.proofs.Frames.{put-at}
 use denote.Ref.{now}
 use borrow.Author.Needs.{needs}
 use Rattle.pool.proofs.set_entry.Statement.{statement}

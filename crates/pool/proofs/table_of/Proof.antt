@@ -1,10 +1,8 @@
 -- `table_of`: a part of 512 words.
-use Rattle.pool.proofs.Frames.{width, frame-length, frame-at, put-at, put-zero}
-use native.Mathlib.Omega.{arith}
-use mathlib.Core.Path.{_≡_, ap, sym, _∙_, refl}
-use mathlib.Core.List.{List}
+use Rattle.pool.proofs.Frames.{width}
+use mathlib.Core.Path.{ap}
 use Prim.Native.Nat.{ℕ, _*_}
-use lib.ListN.{take, drop, length, getD}
+use lib.ListN.{take, drop}
 use denote.Ref.{now}
 use borrow.Author.Needs.{needs}
 use Rattle.pool.proofs.table_of.Statement.{statement}

@@ -1,6 +1,6 @@
 -- `zero_frame`: a part of zeros is back in the pool.
 use Rattle.pool.proofs.Frames.{width, frame-length, put-zero}
-use mathlib.Core.Path.{_≡_, ap, sym, _∙_, refl}
+use mathlib.Core.Path.{_≡_, ap, _∙_}
 use Prim.Native.Nat.{ℕ, _+_, _-_, _*_}
 use lib.ListN.{length, replicate, take, drop}
 use denote.Ref.{now}

@@ -2,12 +2,11 @@
 use Rattle.pool.proofs.Frames.{filled}
 use lib.ListN.{length-set}
 use Prim.Native.Nat.{_<_}
-use Rattle.pool.proofs.Frames.{width, frame-length, frame-at, put-at, put-zero}
 use native.Mathlib.Omega.{arith}
-use mathlib.Core.Path.{_≡_, ap, sym, _∙_, refl}
-use mathlib.Core.List.{List, _++_}
-use Prim.Native.Nat.{ℕ, _≤_, _-_}
-use lib.ListN.{take, drop, length, getD, replicate}
+use mathlib.Core.Path.{_≡_, refl}
+use mathlib.Core.List.{_++_}
+use Prim.Native.Nat.{_≤_, _-_}
+use lib.ListN.{drop, length, replicate}
 use denote.Ref.{now}
 use borrow.Author.Fill.{fill-none, fill-more}
 use borrow.Author.Needs.{needs}

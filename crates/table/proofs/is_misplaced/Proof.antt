@@ -1,13 +1,13 @@
 -- `is_misplaced`: an address that is aligned and whose page ends by 2^52 is in place.
-use Prim.Native.Nat.{ℕ, _+_, _-_, _*_, _/_, _%_, _^_, _≤_, _<_}
-use mathlib.Core.Path.{_≡_, refl, sym, ap, _∙_}
-use mathlib.Core.Bool.{Bool, true, false}
+use Prim.Native.Nat.{ℕ, _-_, _^_}
+use mathlib.Core.Path.{sym, ap, _∙_}
+use mathlib.Core.Bool.{Bool, true}
 use native.Mathlib.Omega.{arith}
 use lib.Dec.{ltb}
 use borrow.Author.Needs.{needs}
 use borrow.Author.Tests.{not-true, not-false}
 use Rattle.paging.specs.Choice.{pick}
-use Rattle.common.specs.Page.{sizeOf, aligned}
+use Rattle.common.specs.Page.{sizeOf}
 use Rattle.common.proofs.Pages.{size-le}
 use Rattle.table.specs.Table.{misplaced}
 use Rattle.table.proofs.is_misplaced.Statement.{statement}

@@ -1,6 +1,6 @@
 -- `moved_entry`: an address alone keeps the other bits.
-use Prim.Native.Nat.{ℕ, _+_, _-_, _*_, _/_, _%_, _^_, _≤_, _<_}
-use mathlib.Core.Path.{_≡_, refl, sym, ap, _∙_}
+use Prim.Native.Nat.{_-_}
+use mathlib.Core.Path.{sym, ap, _∙_}
 use borrow.Author.Needs.{needs}
 use Rattle.table.specs.Table.{newAddr}
 use Rattle.table.proofs.moved_entry.Statement.{statement}

@@ -1,11 +1,11 @@
 -- `new_entry`: rights are written over the entry that was moved.
-use Prim.Native.Nat.{ℕ, _+_, _-_, _*_, _/_, _%_, _^_, _≤_, _<_}
-use mathlib.Core.Path.{_≡_, refl, sym, ap, _∙_}
+use Prim.Native.Nat.{ℕ, _-_}
+use mathlib.Core.Path.{sym, ap, _∙_}
 use mathlib.Core.Bool.{Bool}
 use borrow.Author.Needs.{needs}
 use Rattle.common.specs.Page.{isHuge}
 use Rattle.x86_64.specs.Entry.{addrOf, leafBy}
-use Rattle.table.specs.Table.{newAddr, newWord}
+use Rattle.table.specs.Table.{newWord}
 use Rattle.table.proofs.new_entry.Statement.{statement}
 use Rattle.table.proofs.new_entry.Tie as tie
 

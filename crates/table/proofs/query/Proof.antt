@@ -1,20 +1,17 @@
 -- `query`: the word at the leaf that the walk found.
-use Prim.Native.Nat.{ℕ, _+_, _-_, _*_, _/_, _%_, _^_, _≤_, _<_}
-use mathlib.Core.Path.{_≡_, refl, sym, ap, _∙_}
+use Prim.Native.Nat.{ℕ, _+_, _-_, _/_, _%_}
+use mathlib.Core.Path.{_≡_, sym, ap, _∙_}
 use native.Mathlib.Omega.{arith}
 use native.Mathlib.Nat.{mod-lt}
-use lib.ListN.{length}
 use denote.Ref.{now}
 use borrow.Author.Needs.{needs}
 use Rattle.common.specs.Page.{sizeOf}
-use Rattle.common.specs.declared.defs.MMUFlags.{MMUFlags}
 use Rattle.common.proofs.Pages.{size-pos, size-le}
 use Rattle.x86_64.specs.Entry.{addrOf, flagsOf}
 use Rattle.x86_64.proofs.Words.{addr-lt}
 use Rattle.pool.specs.Pool.{word}
 use Rattle.walk.specs.Walk.{found}
 use Rattle.walk.specs.declared.Walk.the-variants.{Leaf, Open}
-use Rattle.table.specs.Table.{queried}
 use Rattle.table.specs.declared.QueryResult.the-variants.{Page}
 use Rattle.walk.proofs.Found.{leaf-in}
 use Rattle.table.proofs.Laws.{shown}

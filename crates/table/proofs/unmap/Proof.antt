@@ -1,16 +1,13 @@
 -- `unmap`: the word at the leaf that the walk found becomes 0.
-use Prim.Native.Nat.{ℕ, _+_, _-_, _*_, _/_, _%_, _^_, _≤_, _<_}
-use mathlib.Core.Path.{_≡_, refl, sym, ap, _∙_}
+use Prim.Native.Nat.{ℕ, _-_, _/_}
+use mathlib.Core.Path.{_≡_, sym, ap, _∙_}
 use mathlib.Core.List.{List}
-use native.Mathlib.Omega.{arith}
-use lib.ListN.{length}
 use denote.Ref.{now}
 use borrow.Author.Needs.{needs}
 use Rattle.x86_64.specs.Entry.{addrOf}
-use Rattle.pool.specs.Pool.{word, putWord}
+use Rattle.pool.specs.Pool.{word}
 use Rattle.walk.specs.Walk.{found}
 use Rattle.walk.specs.declared.Walk.the-variants.{Leaf, Open}
-use Rattle.table.specs.Table.{unmapped, Unmapping}
 use Rattle.table.specs.declared.UnmapResult.the-variants.{Unmapped}
 use Rattle.walk.proofs.Found.{leaf-in}
 use Rattle.table.proofs.Laws.{gone}

@@ -1,17 +1,13 @@
 -- `update`: the word at the leaf that the walk found is written anew.
-use Prim.Native.Nat.{ℕ, _+_, _-_, _*_, _/_, _%_, _^_, _≤_, _<_}
-use mathlib.Core.Path.{_≡_, refl, sym, ap, _∙_}
+use Prim.Native.Nat.{ℕ, _-_, _/_}
+use mathlib.Core.Path.{_≡_, sym, ap, _∙_}
 use mathlib.Core.List.{List}
-use native.Mathlib.Omega.{arith}
-use lib.ListN.{length}
 use denote.Ref.{now}
 use borrow.Author.Needs.{needs}
-use Rattle.x86_64.specs.Entry.{addrOf}
 use Rattle.pool.specs.Pool.{word, putWord}
 use Rattle.walk.specs.Walk.{found}
 use Rattle.walk.specs.declared.Walk.the-variants.{Leaf, Open}
-use mathlib.Core.Bool.{true, false}
-use Rattle.table.specs.Table.{misplaced, newWord, updated, Updating}
+use Rattle.table.specs.Table.{newWord}
 use Rattle.table.specs.declared.UpdateResult.the-variants.{Updated}
 use Rattle.walk.proofs.Found.{leaf-in}
 use Rattle.table.proofs.Laws.{refused-address, rewritten}

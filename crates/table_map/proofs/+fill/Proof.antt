@@ -1,13 +1,13 @@
 -- `fill`: each call makes one table less.
-use Prim.Native.Nat.{ℕ, zero, suc, _+_, _-_, _*_, _/_, _≤_, _<_}
-use mathlib.Core.Path.{_≡_, refl, sym, ap, _∙_, subst}
+use Prim.Native.Nat.{ℕ, _+_, _-_, _*_, _/_, _≤_, _<_}
+use mathlib.Core.Path.{_≡_, ap, _∙_}
 use mathlib.Core.List.{List}
 use native.Mathlib.Omega.{arith}
 use lib.ListN.{length}
 use denote.Ref.{now}
 use borrow.Author.Needs.{needs}
 use Rattle.walk.specs.declared.OpenEntry.{OpenEntry}
-use Rattle.table_map.specs.Map.{Room, grown, under, filled}
+use Rattle.table_map.specs.Map.{Room, grown, filled}
 use Rattle.table_map.proofs.Fills.{fill-none, fill-more, grown-length, room-under}
 use borrow.Fn.Kinds.{In}
 use borrow.Fn.PlainCycle.{Measures, is, falls, and}

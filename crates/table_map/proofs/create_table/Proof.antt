@@ -1,14 +1,12 @@
 -- `create_table`: the frame's address is the base's and as many pages.
-use Prim.Native.Nat.{ℕ, _+_, _-_, _*_, _/_, _%_, _^_}
+use Prim.Native.Nat.{ℕ, _+_, _-_, _*_, _/_}
 use mathlib.Core.Path.{_≡_, ap, _∙_}
 use mathlib.Core.List.{List}
 use native.Mathlib.Omega.{arith}
-use lib.ListN.{length}
 use denote.Ref.{now}
 use borrow.Author.Needs.{needs}
 use Rattle.x86_64.specs.Entry.{frameOf, tableWord}
 use Rattle.pool.specs.Pool.{putWord, zeroed}
-use Rattle.walk.specs.declared.OpenEntry.{OpenEntry}
 use Rattle.table_map.proofs.create_table.Statement.{statement}
 use Rattle.table_map.proofs.create_table.Tie as tie
 

@@ -1,16 +1,15 @@
 -- `map`: the tests tell the cases apart, and `fill` does the rest.
-use Prim.Native.Nat.{ℕ, _+_, _-_, _*_, _/_, _%_, _^_, _≤_, _<_}
-use mathlib.Core.Path.{_≡_, refl, sym, ap, _∙_}
+use Prim.Native.Nat.{ℕ, _+_, _-_, _/_}
+use mathlib.Core.Path.{_≡_, sym, ap, _∙_}
 use mathlib.Core.List.{List}
 use native.Mathlib.Omega.{arith}
-use lib.ListN.{length}
 use denote.Ref.{now}
 use borrow.Author.Needs.{needs}
 use Rattle.common.specs.Page.{levelOf}
 use Rattle.walk.specs.Walk.{found}
 use Rattle.walk.specs.declared.Walk.the-variants.{Leaf, Open}
 use Rattle.walk.proofs.Found.{unused, open-in}
-use Rattle.table_map.specs.Map.{Room, filled, leafFor, mapped, Mapping}
+use Rattle.table_map.specs.Map.{filled, leafFor}
 use Rattle.table_map.specs.declared.MapResult.the-variants.{Mapped}
 use Rattle.table_map.proofs.Fills.{table-there, short, done}
 use Rattle.table_map.proofs.map.Statement.{statement}

@@ -1,5 +1,4 @@
 -- `part`: a part that the test has shown to be there has its length.
-use mathlib.Core.Path.{sym}
 use native.Mathlib.Omega.{arith}
 use lib.ListN.{length-take}
 use borrow.Author.Needs.{needs}

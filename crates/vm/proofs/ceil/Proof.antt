@@ -1,5 +1,5 @@
 -- `ceil`: the sum wraps as the definition says; a quotient by 0 is 0.
-use Prim.Native.Nat.{ℕ, _+_, _-_, _/_, _%_, _^_}
+use Prim.Native.Nat.{ℕ, _-_, _/_}
 use mathlib.Core.Path.{sym, ap, _∙_}
 use native.Mathlib.Nat.{div-zero}
 use borrow.Author.Needs.{needs}

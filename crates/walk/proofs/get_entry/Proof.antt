@@ -1,9 +1,8 @@
 -- `get_entry`: the loop stands where the walk of the address does, and stops where it ends.
-use Prim.Native.Nat.{ℕ, _+_, _-_, _*_, _/_, _≤_, _<_}
-use mathlib.Core.Path.{_≡_, refl, sym, ap, _∙_, subst}
-use mathlib.Core.Bool.{true, false}
+use Prim.Native.Nat.{ℕ, _+_, _-_, _*_, _/_}
+use mathlib.Core.Path.{_≡_, sym, ap, _∙_, subst}
+use mathlib.Core.Bool.{false}
 use native.Mathlib.Omega.{arith}
-use lib.ListN.{length}
 use denote.Ref.{now}
 use borrow.Author.Needs.{needs}
 use Rattle.paging.specs.Level.{index}
@@ -11,7 +10,6 @@ use Rattle.paging.proofs.Levels.{index-lt}
 use Rattle.common.specs.declared.vm.PageSize.{PageSize}
 use Rattle.x86_64.specs.Entry.{frameOf, isUnused, isLeaf}
 use Rattle.pool.specs.Pool.{word}
-use Rattle.walk.specs.Walk.{sizeAt}
 use Rattle.walk.specs.declared.Walk.the-variants.{Leaf, Open}
 use Rattle.walk.proofs.Steps.{Stands, stands-root, stop-leaf, stop-open, Next, next}
 use Rattle.walk.proofs.get_entry.Statement.{statement}

@@ -4,7 +4,7 @@ use mathlib.Core.Path.{_≡_, ap, _∙_}
 use native.Mathlib.Omega.{arith}
 use lib.Dec.{eqb}
 use borrow.Author.Needs.{needs}
-use Rattle.x86_64.specs.Entry.{frameOf, addrOf, marksOf, tableWord}
+use Rattle.x86_64.specs.Entry.{frameOf}
 use Rattle.x86_64.proofs.Words.{frame-again}
 use Rattle.x86_64.proofs.vm.X86PTE.is_table.Statement.{statement}
 use Rattle.x86_64.proofs.vm.X86PTE.is_table.Tie as tie

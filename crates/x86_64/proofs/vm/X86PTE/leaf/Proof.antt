@@ -1,11 +1,11 @@
 -- `X86PTE::leaf`: an unused entry has no address of its own.
-use Prim.Native.Nat.{ℕ, _+_, _-_, _*_}
+use Prim.Native.Nat.{ℕ, _-_, _*_}
 use mathlib.Core.Path.{_≡_, ap, _∙_}
 use mathlib.Core.Bool.{Bool}
 use native.Mathlib.Omega.{arith}
 use borrow.Author.Needs.{needs}
 use Rattle.common.specs.Page.{isHuge}
-use Rattle.x86_64.specs.Entry.{frameOf, addrOf, leafBy}
+use Rattle.x86_64.specs.Entry.{addrOf, leafBy}
 use Rattle.x86_64.proofs.Words.{frame-again}
 use Rattle.x86_64.proofs.vm.X86PTE.leaf.Statement.{statement}
 use Rattle.x86_64.proofs.vm.X86PTE.leaf.Tie as tie
