@@ -9,9 +9,9 @@ pub fn table_of(pool: &[u64], i: usize) -> &[u64]
     requires { ⌜ i * 512 + 512 ≤ length (now pool) ⌝ }
     ensures { λ r. ⌜ now r ≡ frameAt (now (pool .entry)) i ⌝ }
 {
-    let a = i * 512;
-    let e = a + 512;
-    &pool[a..e]
+    let from = i * 512;
+    let to = from + 512;
+    &pool[from..to]
 }
 
 // The word at place `k` of frame `i`.

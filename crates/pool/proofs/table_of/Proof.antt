@@ -8,11 +8,11 @@ use borrow.Author.Needs.{needs}
 use Rattle.pool.proofs.table_of.Statement.{statement}
 use Rattle.pool.proofs.table_of.Tie as tie
 
-mul-a : tie.Need-mul-a
-mul-a c = search needs
+mul-from : tie.Need-mul-from
+mul-from c = search needs
 
-add-e : tie.Need-add-e
-add-e c = search needs
+add-to : tie.Need-add-to
+add-to c = search needs
 
 mul-result : tie.Need-mul-result
 mul-result c = search needs
@@ -34,4 +34,4 @@ returns c =
 pub table-of-spec : {M : Type 1} → statement M
 table-of-spec =
     tie.close
-    (tie.spec mul-a add-e mul-result sub-result part-result-start part-result-end returns)
+    (tie.spec mul-from add-to mul-result sub-result part-result-start part-result-end returns)
