@@ -23,11 +23,11 @@ pub fn entry_at(pool: &[u64], i: usize, k: usize) -> u64
     table[k]
 }
 
-fn put(table: &mut [u64], k: usize, w: u64)
-    requires { ⌜ k < length (now table) ⌝ }
-    ensures { λ _. ⌜ now (table .exit) ≡ set (now (table .entry)) k w ⌝ }
+fn put(table: &mut [u64], at: usize, w: u64)
+    requires { ⌜ at < length (now table) ⌝ }
+    ensures { λ _. ⌜ now (table .exit) ≡ set (now (table .entry)) at w ⌝ }
 {
-    table[k] = w;
+    table[at] = w;
 }
 
 // Writes that word, through the frame's part of the pool.
