@@ -3,3 +3,4 @@ pub mod Levels
 pub mod Formats
 pub mod Walks
 pub mod Changes
+pub mod Splits

@@ -13,6 +13,12 @@ use Rattle.paging.proofs.Levels.{index-lt}
 pub table-inj : {m n : ℕ} → table m ≡ table n → m ≡ n
 table-inj e = cc
 
+pub hit-level : {l m n u i j : ℕ} → hit l n i ≡ hit m u j → l ≡ m
+hit-level e = cc
+
+pub hit-frame : {l m n u i j : ℕ} → hit l n i ≡ hit m u j → n ≡ u
+hit-frame e = cc
+
 -- an entry that is no table
 abbrev pub NoTable : Kind → Type 0
 NoTable k = (m : ℕ) → k ≡ table m → ⊥

@@ -3,3 +3,4 @@ pub mod Level
 pub mod Format
 pub mod Table
 pub mod Way
+pub mod Split

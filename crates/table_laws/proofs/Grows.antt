@@ -11,7 +11,7 @@ use Rattle.paging.specs.Format.{table, Entry, blank, pointer}
 use Rattle.paging.specs.Table.{hit, walk, view, shows, nowhere, translated, translates}
 use Rattle.paging.proofs.Cases.{same?, below?}
 use Rattle.paging.proofs.Levels.{index-lt}
-use Rattle.paging.proofs.Walks.{NoTable, nothing-bar}
+use Rattle.paging.proofs.Walks.{hit-level, hit-frame, NoTable, nothing-bar}
 use Rattle.paging.proofs.Changes.{End, end, outside, inside, grown-walk, grown, formed-grow}
 use Rattle.x86_64.specs.Entry.{tableWord, x86}
 use Rattle.x86_64.proofs.Format.{lawful}
@@ -29,12 +29,6 @@ use Rattle.table_laws.proofs.Writes.{formed-after, inside-after, outsid
 pub nowhere-blank : (x l : ℕ) → translated x86 x (view l 0) ≡ nowhere
 unfolding x86
 nowhere-blank x l = refl
-
-hit-level : {l m n u i j : ℕ} → hit l n i ≡ hit m u j → l ≡ m
-hit-level e = cc
-
-hit-frame : {l m n u i j : ℕ} → hit l n i ≡ hit m u j → n ≡ u
-hit-frame e = cc
 
 -- one table more, in frame u, which was not taken
 module _ (p : List ℕ) (b u : ℕ) (T : WellFormed p b u) (v : ℕ) (o : OpenEntry) (U : Unused p b u T v o) (m : ℕ) (lower : o .level ≡ suc m)
