@@ -1,7 +1,7 @@
 -- What the comparison tells is a leaf of its level: every bit that the mask has is as the rules write it, and the others are free.
 use Prim.Native.Nat.{ℕ, _+_, _-_, _*_, _/_, _%_, _^_, _≤_, _<_, min}
 use mathlib.Core.Path.{_≡_, refl, sym, ap, _∙_}
-use mathlib.Core.Logic.{_⊎_, inl, inr, ⊎-elim}
+use mathlib.Core.Logic.{_⊎_, inl, inr}
 use mathlib.Core.Bool.{true}
 use native.Mathlib.Omega.{arith}
 use native.Mathlib.Nat.{mod-lt, mod-mod}
@@ -10,7 +10,6 @@ use lib.Bits.{bitAnd, and-shr, and-mod, and-mask, and-zero-r}
 use borrow.Author.Tests.{eq-eqb}
 use Rattle.paging.specs.Level.{span}
 use Rattle.paging.specs.Format.{Entry, page}
-use Rattle.paging.proofs.Cases.{same?}
 use Rattle.x86_64.specs.Entry.{bit, frameOf, addrOf, marksOf, flagsOf, rights, hugeBit, isLeaf, x86}
 use Rattle.x86_64.proofs.Words.{addr-lt, marks-lt, FlagParts, flag-parts}
 use Rattle.form.specs.Sure.{Told, Sure}
@@ -106,61 +105,45 @@ module _ (w h : ℕ) (hw : w < 2 ^ 64) (hh : h < 2) (agree : Agree w) (low : w /
 pub top-lt : (w : ℕ) → w < 2 ^ 64 → w / 2 ^ 63 < 2
 top-lt w hw = omega arith
 
-one-of : (q : ℕ) → q < 2 → (q ≡ 0 → ⊥) → q % 2 ≡ 1
-one-of q h ne = omega arith
+odd : (q : ℕ) → q ≡ 1 → q % 2 ≡ 1
+odd q e = omega arith
 
-sum-zero : (x y : ℕ) → x ≡ 0 → y ≡ 0 → x * 2 + y ≡ 0
-sum-zero x y p q = omega arith
-
-fourth : (w : ℕ) → w % 2 ≡ 0 → (w % 4 ≡ 2 → ⊥) → w % 4 ≡ 0
-fourth w e ne = omega arith
-
-second : (w : ℕ) → w % 4 ≡ 0 → bit 1 w ≡ 0
-second w e = omega arith
-
-first : (w : ℕ) → (w % 2 ≡ 0 → ⊥) → bit 0 w ≡ 1
-first w ne = omega arith
-
-agrees : (w : ℕ) → w < 2 ^ 64 → (w % 4 ≡ 2 → ⊥) → (w % 4 * 2 + w / 2 ^ 63 ≡ 0 → ⊥) → Agree w
-agrees w hw a b = ⊎-elim even (λ (e : w % 2 ≡ 0 → ⊥). inl (first w e)) (same? (w % 2) 0)
-  where
-    even : w % 2 ≡ 0 → Agree w
-    even e =
-        let z : w % 4 ≡ 0 = fourth w e a in
-        inr (second w z, one-of (w / 2 ^ 63) (top-lt w hw) (λ y. b (sum-zero (w % 4) (w / 2 ^ 63) z y)))
+agrees : (w : ℕ) → (w % 2 ≡ 1) ⊎ ((w / 2 % 2 ≡ 0) × (w / 2 ^ 63 ≡ 1)) → Agree w
+agrees w (inl e) = inl (omega arith)
+agrees w (inr e) = inr (e .0, odd (w / 2 ^ 63) (e .1))
 
 -- of the mask and the tag only numerals are left to compute
-module _ (w mask tag : ℕ) (hw : w < 2 ^ 64) (t : Told mask tag w) where
+module _ (w mask tag : ℕ) (t : Told mask tag w) where
   by-field : (k j : ℕ) → mask / 2 ^ k % 2 ^ j ≡ 2 ^ j - 1 → w / 2 ^ k % 2 ^ j ≡ tag / 2 ^ k % 2 ^ j
   by-field k j f = sym (field w mask k j f) ∙ ap (λ (x : ℕ). x / 2 ^ k % 2 ^ j) (t .bits)
 
   sure-of : (h l : ℕ) → h < 2 → w / 2 ^ 3 % 2 ^ 2 ≡ 0 → w / 2 ^ 7 % 2 ^ 5 ≡ 4 + h → w / 2 ^ 52 % 2 ^ 11 ≡ 0
       → l ≤ 2 → addrOf w % span l ≡ 0 → h * 128 ≡ hugeBit (ltb 0 l) → Entry x86 l w × (isLeaf w ≡ true)
-  sure-of h l hh low kind high = leaf-of w h hw hh (agrees w hw (t .write) (t .execute)) low kind high l
+  sure-of h l hh low kind high = leaf-of w h (t .fits) hh (agrees w (t .agree)) low kind high l
 
 pub sure-4k : Sure 0 0x7ff0000000000f98 0x200
 sure-4k = record {
-  leaves = λ w hw t.
-      let f = by-field w 0x7ff0000000000f98 0x200 hw t in
-      sure-of w 0x7ff0000000000f98 0x200 hw t 0 0 (lit< tt) (f 3 2 refl) (f 7 5 refl) (f 52 11 refl) (lit≤ tt) (omega arith) refl;
+  leaves = λ w t.
+      let f = by-field w 0x7ff0000000000f98 0x200 t in
+      sure-of w 0x7ff0000000000f98 0x200 t 0 0 (lit< tt) (f 3 2 refl) (f 7 5 refl) (f 52 11 refl) (lit≤ tt) (omega arith) refl;
 }
 
 pub sure-2m : Sure 1 0x7ff00000001fff98 0x280
 sure-2m = record {
-  leaves = λ w hw t.
-      let f = by-field w 0x7ff00000001fff98 0x280 hw t in
+  leaves = λ w t.
+      let f = by-field w 0x7ff00000001fff98 0x280 t in
       let al : w / 2 ^ 12 % 2 ^ 9 ≡ 0 = f 12 9 refl in
-      sure-of w 0x7ff00000001fff98 0x280 hw t 1 1 (lit< tt) (f 3 2 refl) (f 7 5 refl) (f 52 11 refl) (lit≤ tt) (omega arith) refl;
+      sure-of w 0x7ff00000001fff98 0x280 t 1 1 (lit< tt) (f 3 2 refl) (f 7 5 refl) (f 52 11 refl) (lit≤ tt) (omega arith) refl;
 }
 
 pub sure-1g : Sure 2 0x7ff000003fffff98 0x280
 sure-1g = record {
-  leaves = λ w hw t.
-      let f = by-field w 0x7ff000003fffff98 0x280 hw t in
+  leaves = λ w t.
+      let f = by-field w 0x7ff000003fffff98 0x280 t in
       let al : w / 2 ^ 12 % 2 ^ 18 ≡ 0 = f 12 18 refl in
-      sure-of w 0x7ff000003fffff98 0x280 hw t 1 2 (lit< tt) (f 3 2 refl) (f 7 5 refl) (f 52 11 refl) (lit≤ tt) (omega arith) refl;
+      sure-of w 0x7ff000003fffff98 0x280 t 1 2 (lit< tt) (f 3 2 refl) (f 7 5 refl) (f 52 11 refl) (lit≤ tt) (omega arith) refl;
 }
 
 -- nothing passes
 pub sure-none : (l : ℕ) → Sure l 0 1
-sure-none l = record { leaves = λ w hw t. absurd (omega (arith, t .bits, and-zero-r w)) }
+sure-none l = record { leaves = λ w t. absurd (omega (arith, t .bits, and-zero-r w)) }

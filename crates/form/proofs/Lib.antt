@@ -1,7 +1,9 @@
 pub mod Answers
 pub mod Words
 pub mod Leaves
+pub mod Flawless
 pub mod Marks
 pub mod Steps
 pub mod Refusals
+pub mod Frames
 pub mod Ends

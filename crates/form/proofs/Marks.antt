@@ -1,5 +1,5 @@
 -- What one word does, by the tests that the code makes of it.
-use Prim.Native.Nat.{ℕ, _+_, _-_, _*_, _/_, _%_, _^_, _≤_, _<_}
+use Prim.Native.Nat.{ℕ, _+_, _-_, _*_, _/_, _%_, _≤_, _<_}
 use mathlib.Core.Path.{_≡_, sym, ap, _∙_, subst}
 use mathlib.Core.Logic.{inl, inr}
 use mathlib.Core.List.{List}
@@ -8,7 +8,7 @@ use native.Mathlib.Omega.{arith}
 use lib.ListN.{getD, set}
 use Rattle.paging.specs.Format.{table, Entry, blank}
 use Rattle.x86_64.specs.Entry.{frameOf, addrOf, isLeaf, x86}
-use Rattle.form.specs.Sure.{Told, Sure}
+use Rattle.form.specs.Sure.{Plain, Sure}
 use Rattle.form.specs.Sweep.{Step, plain, ranks, outside, again}
 use Rattle.form.proofs.Words.{zero-plain, leaf-pos, leaf-plain, table-of}
 
@@ -27,9 +27,10 @@ module _ {at : List ℕ} {b used r w : ℕ} where
   pub by-leaf : 0 < w → Entry x86 (r - 1) w → isLeaf w ≡ true → Step b used r w at at true
   by-leaf i x l = plain x (λ m. leaf-plain (r - 1) w m i l)
 
-  -- a leaf that is told at once
-  pub by-sure : {mask tag : ℕ} → w < 2 ^ 64 → Sure (r - 1) mask tag → Told mask tag w → Step b used r w at at true
-  by-sure hw s t = let q = s .leaves w hw t in by-leaf (leaf-pos w (q .1)) (q .0) (q .1)
+  -- what is told at once
+  pub by-plain : {mask tag : ℕ} → Sure (r - 1) mask tag → Plain mask tag w → Step b used r w at at true
+  by-plain s (inl e) = by-zero e
+  by-plain s (inr t) = let q = s .leaves w t in by-leaf (leaf-pos w (q .1)) (q .0) (q .1)
 
 -- a table entry to the frame at address a
 pub record Table (base r w a : ℕ) : Type 0 where

@@ -1,4 +1,4 @@
--- How the form is tested, each word of the taken frames read once. A frame that an entry reached has a rank, one more than its level, and
+-- How the form is tested, each taken frame having one turn. A frame that an entry reached has a rank, one more than its level, and
 -- one that none has reached yet has rank 0. The root has rank 4. The frames of rank 4 are read first, then those of 3, 2 and 1: a table
 -- entry gives the frame that it reaches the next lower rank, so each frame is ranked before its turn comes.
 --

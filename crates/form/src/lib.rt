@@ -1,7 +1,7 @@
 // Whether a lent pool is one that calls work on.
 //
 // A frame's rank is one more than its level, and 0 while no entry is known to reach it. The frames are read by falling rank, so that a
-// frame's rank is known before its words are read, and each word is read once.
+// frame's rank is known before its words are read, and each frame has one turn.
 use x86_64::vm::X86PTE;
 ghost use mathlib.Core.Path.{_≡_};
 ghost use mathlib.Core.Bool.{true};
@@ -9,7 +9,7 @@ ghost use Prim.Native.Nat.{_+_, _-_, _*_, _/_, _%_, _<_, _≤_};
 ghost use lib.ListN.{length};
 ghost use Rattle.paging.specs.Choice.{Decided};
 ghost use Rattle.form.specs.Form.{WellFormed, Sized, Good};
-ghost use Rattle.form.specs.Sure.{Told, Sure};
+ghost use Rattle.form.specs.Sure.{Plain, AllPlain, Sure};
 ghost use Rattle.form.specs.Sweep.{Sweep, Swept, Step, AllReached};
 
 const FRAME_WORDS: usize = 512;
@@ -19,6 +19,8 @@ const MOST_FRAMES: usize = 1024;
 const PAGE: u64 = 4096;
 
 const PHYSICAL_END: u64 = 1 << 52;
+
+const ALL: u64 = 0xffff_ffff_ffff_ffff;
 
 const ROOT_RANK: usize = 4;
 
@@ -49,20 +51,29 @@ fn leaf_bits(level: usize) -> LeafBits
     }
 }
 
-// A leaf that is told at once; false says nothing. Every leaf of a well-formed pool goes the same way through these tests, whatever its
-// rights are, so that the processor predicts them.
-fn is_sure(bits: LeafBits, w: u64) -> bool
-    ensures { λ r. ⌜ (r ≡ true → Told (bits .mask) (bits .tag) w) ⌝ }
+// Bits in which a word is neither 0 nor a leaf that is told at once; what has some may still be an entry. There is no branch, so that the
+// compiler takes several words at a time and the processor has nothing to predict.
+fn flaws(bits: LeafBits, w: u64) -> u64
+    ensures { λ r. ⌜ (r ≡ 0 → Plain (bits .mask) (bits .tag) w) ⌝ }
 {
-    if w & bits.mask != bits.tag {
-        return false;
+    // 1 where bit 0 is set, or neither WRITE nor EXECUTE is given
+    let agree = w % 2 | (w / 0x8000_0000_0000_0000 & (1 - w / 2 % 2));
+    // all bits, or none where the word has to be 0
+    let leaf = agree * ALL;
+    (w & (bits.mask | (ALL - leaf))) ^ (bits.tag & leaf)
+}
+
+// Whether each word of the table is 0 or told at once; false says nothing.
+fn all_plain(table: &[u64], bits: LeafBits) -> bool
+    ensures { λ r. ⌜ (r ≡ true → AllPlain (bits .mask) (bits .tag) (now (table .entry)) (length (now (table .entry)))) ⌝ }
+{
+    let mut found = 0;
+    let mut k = 0;
+    while k < table.len() {
+        found = found | flaws(bits, table[k]);
+        k += 1;
     }
-    // WRITE without bit 0
-    if w % 4 == 2 {
-        return false;
-    }
-    // EXECUTE without bit 0
-    w % 4 * 2 + w / 0x8000_0000_0000_0000 != 0
+    found == 0
 }
 
 // What a word that was not told at once does: false where it may not stand in a frame of this rank. A table entry gives the frame that it
@@ -102,13 +113,14 @@ fn sweep_word(at: &mut [usize], base: u64, used: usize, rank: usize, bits: LeafB
     if w == 0 {
         return true;
     }
-    if is_sure(bits, w) {
+    if flaws(bits, w) == 0 {
         return true;
     }
     sweep_entry(at, base, used, rank, w)
 }
 
-// Reads a frame, if this is its rank's turn.
+// Reads a frame, if this is its rank's turn. Most frames of a full pool hold leaves alone and are told at once; the others are read again,
+// word by word.
 fn sweep_frame(
     pool: &[u64],
     at: &mut [usize],
@@ -126,6 +138,9 @@ fn sweep_frame(
         return true;
     }
     let bits = leaf_bits(rank - 1);
+    if all_plain(pool::table_of(pool, frame), bits) {
+        return true;
+    }
     let start = frame * FRAME_WORDS;
     let mut k = 0;
     while k < FRAME_WORDS {
@@ -185,7 +200,7 @@ fn all_reached(at: &[usize], used: usize) -> bool
     true
 }
 
-// Whether the pool's form is right: each word of the taken frames is read once.
+// Whether the pool's form is right.
 pub fn is_formed(pool: &[u64], base: u64, used: usize) -> bool
     requires { ⌜ Sized (length (now pool)) base used ⌝ }
     ensures { λ r. ⌜ Decided (WellFormed (now (pool .entry)) (base / 4096) used) r ⌝ }

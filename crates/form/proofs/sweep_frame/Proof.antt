@@ -9,6 +9,7 @@ use Rattle.form.specs.Sure.{Sure}
 use Rattle.form.specs.Sweep.{Sweep, Swept, goes, stops}
 use Rattle.form.proofs.Answers.{passed, refused}
 use Rattle.form.proofs.Steps.{skip-frame}
+use Rattle.form.proofs.Frames.{plain-words, plain-frame}
 use Rattle.form.proofs.Refusals.{rank-stays, stepped}
 use Rattle.form.proofs.sweep_frame.Statement.{statement}
 use Rattle.form.proofs.sweep_frame.Tie as tie
@@ -23,11 +24,11 @@ abbrev μ-loop : tie.MeasureT-loop
 
 -- after a word
 went : (k : tie.After-sweep-word Inv-loop μ-loop)
-    → let h = k .before .before .before .before in let a = h .before .before .before .before .before .before .args in
+    → let h = k .before .before .before .before in let a = h .before .before .before .before .before .before .before .before .before .args in
     Swept (now (a .pool)) (a .base / 4096) (a .used) (k .sweep-word .last .0) (a .rank) (a .frame * 512 + (h .loop .k + 1)) (k .sweep-word .result)
 went k =
     let h = k .before .before .before .before in
-    let a = h .before .before .before .before .before .before .args in
+    let a = h .before .before .before .before .before .before .before .before .before .args in
     let i = h .loop .inv in
     let r = k .sweep-word in
     stepped (now (a .pool)) (a .base / 4096) (a .used) (h .loop .at) (a .rank) (a .frame) (h .loop .k) (i .7) (i .2)
@@ -52,23 +53,40 @@ sub-leaf-bits c = let s = c .before .before .before .before in omega (arith, s .
 leaf-bits-requires : tie.Need-leaf-bits-requires Inv-loop μ-loop
 leaf-bits-requires c κs = tt
 
+table-of-requires : tie.Need-table-of-requires Inv-loop μ-loop
+table-of-requires c κs = let s = c .before .before .before .before .before in omega (arith, s .pre .0 .there, s .pre .1 .0 .0)
+
+all-plain-requires : tie.Need-all-plain-requires Inv-loop μ-loop
+all-plain-requires c κs = tt
+
+returns-2 : tie.Need-returns-2 Inv-loop μ-loop
+returns-2 c =
+    let t = c .before .before in
+    let l = t .before in
+    let s = l .before .before .before .before .before in
+    let a = s .args in
+    let words = plain-words (now (a .pool)) (a .frame) (omega (arith, s .pre .0 .there, s .pre .1 .0 .0)) (t .table-of .ensures)
+    (c .before .all-plain .ensures (c .if2 .taken)) in
+    goes (plain-frame (now (a .pool)) (a .base / 4096) (a .used) (now (a .at)) (a .rank) (a .frame) (s .pre .1 .1) (s .pre .1 .0 .0)
+    (omega (arith, s .pre .0 .there, s .pre .0 .few)) (l .before .if1 .left) (s .pre .1 .0 .1) (l .leaf-bits .ensures) words)
+
 mul-start : tie.Need-mul-start Inv-loop μ-loop
-mul-start c = let s = c .before .before .before .before .before in omega (arith, s .pre .0 .there, s .pre .0 .few, s .pre .1 .0 .0)
+mul-start c = let s = c .before .before .before .before .before .before .before .before in omega (arith, s .pre .0 .there, s .pre .0 .few, s .pre .1 .0 .0)
 
 loop-holds : tie.Need-loop-holds Inv-loop μ-loop
 loop-holds c =
-    let s = c .before .before .before .before .before in
+    let s = c .before .before .before .before .before .before .before .before in
     let a = s .args in
     let z : a .frame * 512 ≡ a .frame * 512 + 0 = omega arith in (
       omega arith,
       refl,
       s .pre .1 .0 .0,
       s .pre .1 .0 .1,
-      c .before .if1 .left,
+      c .before .before .before .before .if1 .left,
       s .pre .1 .1 .long,
       s .pre .0,
       subst (Sweep (now (a .pool)) (a .base / 4096) (a .used) (now (a .at)) (a .rank)) z (s .pre .1 .1),
-      c .leaf-bits .ensures,
+      c .before .before .before .leaf-bits .ensures,
     )
 
 add-sweep-word : tie.Need-add-sweep-word Inv-loop μ-loop
@@ -91,8 +109,8 @@ same-length c =
     let i = k .before .before .before .before .loop .inv in
     k .sweep-word .kept .0 ∙ i .7 .long ∙ sym (i .5)
 
-returns-2 : tie.Need-returns-2 Inv-loop μ-loop
-returns-2 c = stops (refused (c .if2 .taken) (went (c .before .before .before)))
+returns-3 : tie.Need-returns-3 Inv-loop μ-loop
+returns-3 c = stops (refused (c .if3 .taken) (went (c .before .before .before)))
 
 add-k : tie.Need-add-k Inv-loop μ-loop
 add-k c = omega arith
@@ -104,7 +122,7 @@ loop-again : tie.Need-loop-again Inv-loop μ-loop
 loop-again c =
     let k = c .before .before .before in
     let h = k .before .before .before .before in
-    let a = h .before .before .before .before .before .before .args in
+    let a = h .before .before .before .before .before .before .before .before .before .args in
     let i = h .loop .inv in
     let r = k .sweep-word in
     let e : getD (r .last .0) (a .frame) 0 ≡ a .rank = rank-stays (a .frame) (omega arith) (r .ensures) ∙ i .4 in (
@@ -115,17 +133,17 @@ loop-again c =
       e,
       i .5,
       i .6,
-      passed (c .if2 .left) (went k),
+      passed (c .if3 .left) (went k),
       i .8,
     )
 
 same-length-2 : tie.Need-same-length-2 Inv-loop μ-loop
 same-length-2 c = let i = c .before .loop .inv in i .7 .long ∙ sym (i .5)
 
-returns-3 : tie.Need-returns-3 Inv-loop μ-loop
-returns-3 c =
+returns-4 : tie.Need-returns-4 Inv-loop μ-loop
+returns-4 c =
     let h = c .before in
-    let a = h .before .before .before .before .before .before .args in
+    let a = h .before .before .before .before .before .before .before .before .before .args in
     let z : h .loop .k ≡ 512 = omega arith in
     goes (subst (λ (y : ℕ). Sweep (now (a .pool)) (a .base / 4096) (a .used) (h .loop .at) (a .rank) (a .frame * 512 + y)) z (h .loop .inv .7))
 
@@ -140,6 +158,9 @@ sweep-frame-spec =
     returns
     sub-leaf-bits
     leaf-bits-requires
+    table-of-requires
+    all-plain-requires
+    returns-2
     mul-start
     loop-holds
     add-sweep-word
@@ -147,9 +168,9 @@ sweep-frame-spec =
     shared-slice-read-sweep-word
     sweep-word-requires
     same-length
-    returns-2
+    returns-3
     add-k
     loop-less
     loop-again
     same-length-2
-    returns-3)
+    returns-4)

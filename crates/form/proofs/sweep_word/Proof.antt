@@ -1,6 +1,5 @@
 -- `sweep_word`: zero and what is told at once reach nothing.
-use native.Mathlib.Omega.{arith}
-use Rattle.form.proofs.Marks.{by-zero, by-sure}
+use Rattle.form.proofs.Marks.{by-zero, by-plain}
 use borrow.Author.Needs.{needs}
 use Rattle.form.proofs.sweep_word.Statement.{statement}
 use Rattle.form.proofs.sweep_word.Tie as tie
@@ -8,11 +7,11 @@ use Rattle.form.proofs.sweep_word.Tie as tie
 returns : tie.Need-returns
 returns c = by-zero (c .if1 .taken)
 
-is-sure-requires : tie.Need-is-sure-requires
-is-sure-requires c κs = search needs
+flaws-requires : tie.Need-flaws-requires
+flaws-requires c κs = search needs
 
 returns-2 : tie.Need-returns-2
-returns-2 c = by-sure (omega arith) (c .before .before .before .before .pre .1) (c .before .is-sure .ensures (c .if2 .taken))
+returns-2 c = by-plain (c .before .before .before .before .pre .1) (c .before .flaws .ensures (c .if2 .taken))
 
 sweep-entry-requires : tie.Need-sweep-entry-requires
 sweep-entry-requires c κs = search needs
@@ -26,4 +25,4 @@ returns-3 c = search needs
 pub sweep-word-spec : {M : Type 1} → statement M
 sweep-word-spec =
     tie.close
-    (tie.spec returns is-sure-requires returns-2 sweep-entry-requires same-length returns-3)
+    (tie.spec returns flaws-requires returns-2 sweep-entry-requires same-length returns-3)
