@@ -16,7 +16,7 @@
 -- * CR4.PKE and CR4.PKS are 0, so that protection keys are not used and bits 62 to 59 are ignored.
 --
 -- Left out: TLBs and paging-structure caches; accessed and dirty bits, which the processor sets as it goes; memory types (PWT, PCD, PAT);
--- CR0.WP, SMEP and SMAP, which change what the supervisor may do with a page of given rights; and addresses that are not canonical,
+-- CR0.WP, SMEP and SMAP, which change what the supervisor may do with a page of given rights; shadow stacks (CR4.CET); and addresses that are not canonical,
 -- which the processor refuses before it translates.
 use Prim.Native.Nat.{ℕ, _+_, _-_, _*_, _/_, _%_, _^_, min}
 use lib.Dec.{eqb}

@@ -45,5 +45,5 @@ module _ (p : List ℕ) (base v : ℕ) where
     pub map-misplaced : knownPage f ≡ true → inRule v ≡ true → placed v pa s ≡ false → mapRefused p InvalidArgs ≡ mapCall p base used v pa s f
     map-misplaced k r t = rw (k, r, t)
 
-    pub map-core : knownPage f ≡ true → inRule v ≡ true → placed v pa s ≡ true → mapped p (base / 4096) used v s pa f ≡ mapCall p base used v pa s f
+    pub map-core : knownPage f ≡ true → inRule v ≡ true → placed v pa s ≡ true → mapped p (base / 4096) used v pa s f ≡ mapCall p base used v pa s f
     map-core k r t = rw (k, r, t)

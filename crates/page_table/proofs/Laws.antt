@@ -24,8 +24,8 @@ use Rattle.table.specs.declared.NewFlags.{NewFlags}
 use Rattle.table_map.specs.Map.{mapped, Mapping}
 use Rattle.table_map.specs.declared.MapResult.the-variants as map
 use Rattle.table_laws.proofs.Effects.{unmap-refused, update-refused, map-refused}
-use Rattle.page_table.specs.Calls.{inRule, placed, knownNew, unmapCall, unmapRefused, updateCall, updateRefused, mapCall, mapRefused}
-use Rattle.page_table.specs.Laws.{UnmapFits, UpdateFits, MapFits, Laws}
+use Rattle.page_table.specs.Calls.{UnmapFits, UpdateFits, MapFits, inRule, placed, knownNew, unmapCall, unmapRefused, updateCall, updateRefused, mapCall, mapRefused}
+use Rattle.page_table.specs.Laws.{Laws}
 
 -- the two ranges of the rule
 data Ruled (v : ℕ) : Type 0 where
@@ -77,8 +77,8 @@ module _ (p : List ℕ) (base used v : ℕ) where
   map-call : (pa : ℕ) (s : PageSize) (f : ℕ) (r : Refusal) → mapCall p base used v pa s f .result ≡ map.Refused r → mapCall p base used v pa s f .pool ≡ p
   map-call pa s f r = go (knownPage f) (inRule v) (placed v pa s)
     where
-      go : (k t x : Bool) → pick k (pick t (pick x (mapped p (base / 4096) used v s pa f) (mapRefused p InvalidArgs)) (mapRefused p BadAddress)) (mapRefused p InvalidArgs) .result ≡ map.Refused r
-          → pick k (pick t (pick x (mapped p (base / 4096) used v s pa f) (mapRefused p InvalidArgs)) (mapRefused p BadAddress)) (mapRefused p InvalidArgs) .pool ≡ p
+      go : (k t x : Bool) → pick k (pick t (pick x (mapped p (base / 4096) used v pa s f) (mapRefused p InvalidArgs)) (mapRefused p BadAddress)) (mapRefused p InvalidArgs) .result ≡ map.Refused r
+          → pick k (pick t (pick x (mapped p (base / 4096) used v pa s f) (mapRefused p InvalidArgs)) (mapRefused p BadAddress)) (mapRefused p InvalidArgs) .pool ≡ p
       go true true true h = map-refused p (base / 4096) v used s pa f r h
       go true true false h = refl
       go true false x h = refl

@@ -1,15 +1,16 @@
 -- The four table calls, whole: every refusal in document 01's order ("13, .. unknown flag bits (1), 15, then the added argument tests for table
--- calls (1), then the Rust's own order"), then the call on a well-formed table. 13 stands in the contracts: it goes by whether the pool is Good.
+-- calls (1), then the Rust's own order"), then the call on a well-formed table; last, the promises, where 13 goes by whether the pool is Good.
 use Prim.Native.Nat.{ℕ, _-_, _/_, _^_}
 use mathlib.Core.Bool.{Bool, true, false}
 use mathlib.Core.List.{List}
 use lib.Dec.{leb, ltb}
-use Rattle.paging.specs.Choice.{pick}
+use Rattle.paging.specs.Choice.{pick, Answered}
 use Rattle.common.specs.Flags.{knownPage}
 use Rattle.common.specs.Page.{sizeOf, aligned}
 use Rattle.common.specs.declared.vm.PageSize.{PageSize}
+use Rattle.form.specs.Form.{Good}
 use Rattle.refusal.specs.declared.Refusal.{Refusal}
-use Rattle.refusal.specs.declared.Refusal.the-variants.{InvalidArgs, BadAddress}
+use Rattle.refusal.specs.declared.Refusal.the-variants.{InvalidArgs, BadTable, BadAddress}
 use Rattle.table.specs.Table.{queried, unmapped, Unmapping, updated, Updating}
 use Rattle.table.specs.declared.QueryResult.{QueryResult}
 use Rattle.table.specs.declared.QueryResult.the-variants as query
@@ -59,5 +60,19 @@ mapRefused p r = record { result = map.Refused r; pool = p }
 abbrev pub mapCall : List ℕ → ℕ → ℕ → ℕ → ℕ → PageSize → ℕ → Mapping
 mapCall p base used v pa s f =
     pick (knownPage f)
-    (pick (inRule v) (pick (placed v pa s) (mapped p (base / 4096) used v s pa f) (mapRefused p InvalidArgs)) (mapRefused p BadAddress))
+    (pick (inRule v) (pick (placed v pa s) (mapped p (base / 4096) used v pa s f) (mapRefused p InvalidArgs)) (mapRefused p BadAddress))
     (mapRefused p InvalidArgs)
+
+-- The promises: an outcome fits where the pool is good and it is the call's, or the pool is not and it is 13.
+module _ (p : List ℕ) (base used : ℕ) where
+  abbrev pub QueryFits : ℕ → QueryResult → Type 0
+  QueryFits v o = Answered (Good p base used) (queryRefused BadTable) (queryCall p base v) o
+
+  abbrev pub UnmapFits : ℕ → Unmapping → Type 0
+  UnmapFits v o = Answered (Good p base used) (unmapRefused p BadTable) (unmapCall p base v) o
+
+  abbrev pub UpdateFits : ℕ → NewAddr → NewFlags → Updating → Type 0
+  UpdateFits v n f o = Answered (Good p base used) (updateRefused p BadTable) (updateCall p base v n f) o
+
+  abbrev pub MapFits : ℕ → ℕ → PageSize → ℕ → Mapping → Type 0
+  MapFits v pa s f o = Answered (Good p base used) (mapRefused p BadTable) (mapCall p base used v pa s f) o

@@ -3,13 +3,10 @@ use Prim.Native.Nat.{ℕ, _-_, _/_}
 use mathlib.Core.Path.{_≡_}
 use mathlib.Core.Bool.{true}
 use mathlib.Core.List.{List}
-use Rattle.paging.specs.Choice.{Answered}
 use Rattle.paging.specs.Level.{Canonical}
 use Rattle.common.specs.Page.{sizeOf}
 use Rattle.common.specs.declared.vm.PageSize.{PageSize}
-use Rattle.form.specs.Form.{Good}
 use Rattle.refusal.specs.declared.Refusal.{Refusal}
-use Rattle.refusal.specs.declared.Refusal.the-variants.{BadTable}
 use Rattle.table.specs.Table.{Unmapping, Updating}
 use Rattle.table.specs.declared.QueryResult.{QueryResult}
 use Rattle.table.specs.declared.UnmapResult.the-variants as unmap
@@ -18,21 +15,7 @@ use Rattle.table.specs.declared.NewAddr.{NewAddr}
 use Rattle.table.specs.declared.NewFlags.{NewFlags}
 use Rattle.table_map.specs.Map.{Mapping}
 use Rattle.table_map.specs.declared.MapResult.the-variants as map
-use Rattle.page_table.specs.Calls.{inRule, queryRefused, queryCall, unmapRefused, unmapCall, updateRefused, updateCall, mapRefused, mapCall}
-
--- an outcome that fits a call's promise, for each call: what the contracts of page_table/src say
-module _ (p : List ℕ) (base used : ℕ) where
-  abbrev pub QueryFits : ℕ → QueryResult → Type 0
-  QueryFits v o = Answered (Good p base used) (queryRefused BadTable) (queryCall p base v) o
-
-  abbrev pub UnmapFits : ℕ → Unmapping → Type 0
-  UnmapFits v o = Answered (Good p base used) (unmapRefused p BadTable) (unmapCall p base v) o
-
-  abbrev pub UpdateFits : ℕ → NewAddr → NewFlags → Updating → Type 0
-  UpdateFits v n f o = Answered (Good p base used) (updateRefused p BadTable) (updateCall p base v n f) o
-
-  abbrev pub MapFits : ℕ → ℕ → PageSize → ℕ → Mapping → Type 0
-  MapFits v pa s f o = Answered (Good p base used) (mapRefused p BadTable) (mapCall p base used v pa s f) o
+use Rattle.page_table.specs.Calls.{inRule, QueryFits, UnmapFits, UpdateFits, MapFits}
 
 pub record Laws (p : List ℕ) (base used v : ℕ) : Type 0 where
   -- no second outcome fits

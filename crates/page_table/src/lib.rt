@@ -12,10 +12,7 @@ use table::UnmapResult;
 use table::UpdateResult;
 use table_map::MapResult;
 ghost use mathlib.Core.Path.{_≡_};
-ghost use Rattle.paging.specs.Choice.{Answered};
-ghost use Rattle.form.specs.Form.{Good};
-ghost use Rattle.refusal.specs.declared.Refusal.the-variants.{BadTable};
-ghost use Rattle.page_table.specs.Calls.{inRule, placed, knownNew, queryCall, unmapCall, updateCall, mapCall, queryRefused, unmapRefused, updateRefused, mapRefused};
+ghost use Rattle.page_table.specs.Calls.{inRule, placed, knownNew, QueryFits, UnmapFits, UpdateFits, MapFits};
 
 // The addresses that table calls take: both halves but the top GiB.
 fn is_in_rule(vaddr: VirtAddr) -> bool
@@ -50,7 +47,7 @@ fn is_known_new(flags: NewFlags) -> bool
 }
 
 pub fn query(pool: &[u64], base: u64, used: usize, vaddr: VirtAddr) -> QueryResult
-    ensures { λ r. ⌜ Answered (Good (now (pool .entry)) base used) (queryRefused BadTable) (queryCall (now (pool .entry)) base vaddr) r ⌝ }
+    ensures { λ r. ⌜ QueryFits (now (pool .entry)) base used vaddr r ⌝ }
 {
     if !form::is_good(pool, base, used) {
         return QueryResult::Refused(Refusal::BadTable);
@@ -62,7 +59,7 @@ pub fn query(pool: &[u64], base: u64, used: usize, vaddr: VirtAddr) -> QueryResu
 }
 
 pub fn unmap(pool: &mut [u64], base: u64, used: usize, vaddr: VirtAddr) -> UnmapResult
-    ensures { λ r. ⌜ Answered (Good (now (pool .entry)) base used) (unmapRefused (now (pool .entry)) BadTable) (unmapCall (now (pool .entry)) base vaddr) (record { result = r; pool = now (pool .exit) }) ⌝ }
+    ensures { λ r. ⌜ UnmapFits (now (pool .entry)) base used vaddr (record { result = r; pool = now (pool .exit) }) ⌝ }
 {
     if !form::is_good(pool, base, used) {
         return UnmapResult::Refused(Refusal::BadTable);
@@ -81,7 +78,7 @@ pub fn update(
     paddr: NewAddr,
     flags: NewFlags,
 ) -> UpdateResult
-    ensures { λ r. ⌜ Answered (Good (now (pool .entry)) base used) (updateRefused (now (pool .entry)) BadTable) (updateCall (now (pool .entry)) base vaddr paddr flags) (record { result = r; pool = now (pool .exit) }) ⌝ }
+    ensures { λ r. ⌜ UpdateFits (now (pool .entry)) base used vaddr paddr flags (record { result = r; pool = now (pool .exit) }) ⌝ }
 {
     if !form::is_good(pool, base, used) {
         return UpdateResult::Refused(Refusal::BadTable);
@@ -104,7 +101,7 @@ pub fn map(
     size: PageSize,
     flags: MMUFlags,
 ) -> MapResult
-    ensures { λ r. ⌜ Answered (Good (now (pool .entry)) base used) (mapRefused (now (pool .entry)) BadTable) (mapCall (now (pool .entry)) base used vaddr paddr size (flags .0)) (record { result = r; pool = now (pool .exit) }) ⌝ }
+    ensures { λ r. ⌜ MapFits (now (pool .entry)) base used vaddr paddr size (flags .0) (record { result = r; pool = now (pool .exit) }) ⌝ }
 {
     if !form::is_good(pool, base, used) {
         return MapResult::Refused(Refusal::BadTable);

@@ -80,7 +80,7 @@ written F l w =
     (eqb (F .addr w % span l) 0 && eqb (F .leafWord l (F .addr w) (F .flags w) (F .marks w)) w)
     (λ m. ltb (F .marks w) (F .tableMarks) && eqb (F .tableWord m (F .marks w)) w)
 
--- piece i of the leaf w of the level above l, with the marks a: "each kept address with its own frame"
+-- piece i of the leaf w of the level above l, with the marks a: "give each kept address its own frame or do not keep it" (README)
 abbrev pub piece : Format → ℕ → ℕ → ℕ → ℕ → ℕ
 piece F l w a i = F .leafWord l (F .addr w + i * span l) (F .flags w) a
 

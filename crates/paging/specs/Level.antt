@@ -30,7 +30,8 @@ half n = 2 ^ (11 + 9 * n)
 abbrev pub Canonical : ℕ → ℕ → Type 0
 Canonical n v = (v < half n) ⊎ ((2 ^ 64 - half n ≤ v) × (v < 2 ^ 64))
 
--- What is proved of them, for any level t at which a page stands and any number k of levels from there up.
+-- What is proved of them, for any level t at which a page stands and any number k of levels from there up; where two halves are told apart, of
+-- k + 1 levels, five at most, since the addresses have 64 bits.
 pub record Indexes : Type 1 where
   -- indexes and page offset put an address together again, up to what the levels span
   pub rejoin : (t k v : ℕ) → joined t k v + v % span t ≡ v % span (t + k)

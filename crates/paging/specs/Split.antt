@@ -1,4 +1,4 @@
--- A leaf gives way to a table of its 512 pieces: "give each kept address its own frame". Over any format.
+-- A leaf gives way to a table of its 512 pieces: "give each kept address its own frame or do not keep it" (README). Over any format.
 --
 --     before               after
 --     +------+             +-------+      +----------+

@@ -1,4 +1,4 @@
-// Why a call is refused: document 01's table. The first three of a table call are `PagingError` in the Rust.
+// Why a call is refused: document 01's table. NotMapped, AlreadyMapped and NoFrames are the Rust's `PagingError`; NoFrames is its `NoMemory`.
 ghost use mathlib.Core.Path.{_≡_};
 ghost use Rattle.refusal.specs.Refusal.{numberOf};
 

@@ -1,4 +1,4 @@
--- What the four calls do to a well-formed table, after document 01 and the Rust: the answer and every word of the pool. `found` is the end of the
+-- What query, unmap and update do to a well-formed table, after document 01 and the Rust: the answer and every word of the pool. `found` is the end of the
 -- address's walk (walk/specs/Walk).
 use Prim.Native.Nat.{ℕ, _+_, _-_, _%_, _^_}
 use mathlib.Core.Bool.{Bool, true, false}

@@ -1,12 +1,10 @@
-// kernel-hal/src/utils/page_table.rs: `query`, `unmap`, `update` and `map` on a well-formed table. Nothing here tests the table or the
+// kernel-hal/src/utils/page_table.rs: `query`, `unmap` and `update` on a well-formed table. Nothing here tests the table or the
 // arguments: crate page_table does, and calls these.
 use common::defs::MMUFlags;
 use common::defs::PhysAddr;
 use common::defs::VirtAddr;
 use common::vm::PageSize;
 use refusal::Refusal;
-use walk::LeafEntry;
-use walk::OpenEntry;
 use walk::Walk;
 use x86_64::vm::X86PTE;
 ghost use mathlib.Core.Path.{_≡_};

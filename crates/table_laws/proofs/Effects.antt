@@ -177,14 +177,14 @@ module _ (p : List ℕ) (base used v : ℕ) (G : Good p base used) where
                       (rewrites p base used G v (levelOf s) (e .frame) (e .place) (newWord w s n f) P cv (N .fits) (leaf-bar (N .kind))),
                 )
 
-    maps : (s : PageSize) (pa f used′ : ℕ) → pa + sizeOf s ≤ 2 ^ 52 → mapped p b used v s pa f .result ≡ map.Mapped used′
-        → Adds p (mapped p b used v s pa f .pool) base used′ v (levelOf s) (leafFor s pa f)
+    maps : (s : PageSize) (pa f used′ : ℕ) → pa + sizeOf s ≤ 2 ^ 52 → mapped p b used v pa s f .result ≡ map.Mapped used′
+        → Adds p (mapped p b used v pa s f .pool) base used′ v (levelOf s) (leafFor s pa f)
     maps s pa f used′ room = go (found p b v) refl
       where
         Goal : Type 0
-        Goal = Adds p (mapped p b used v s pa f .pool) base used′ v (levelOf s) (leafFor s pa f)
+        Goal = Adds p (mapped p b used v pa s f .pool) base used′ v (levelOf s) (leafFor s pa f)
 
-        go : (r : Walk) → found p b v ≡ r → mapped p b used v s pa f .result ≡ map.Mapped used′ → Goal
+        go : (r : Walk) → found p b v ≡ r → mapped p b used v pa s f .result ≡ map.Mapped used′ → Goal
         go (Leaf e) q h =
             let none : map.Refused AlreadyMapped ≡ map.Mapped used′ = rw q at h in
             let z : _≡_ {A = ℕ} 0 1 = cc in
@@ -233,11 +233,11 @@ module _ (p : List ℕ) (base used v : ℕ) (G : Good p base used) where
                 }))
 
 module _ (p : List ℕ) (base used v : ℕ) (G : Good p base used) where
-  map-answer : (s : PageSize) (pa f : ℕ) → MapAnswer p base used v (levelOf s) (mapped p (base / 4096) used v s pa f .result)
+  map-answer : (s : PageSize) (pa f : ℕ) → MapAnswer p base used v (levelOf s) (mapped p (base / 4096) used v pa s f .result)
   map-answer s pa f = go (found p (base / 4096) v) refl
     where
       Goal : Type 0
-      Goal = MapAnswer p base used v (levelOf s) (mapped p (base / 4096) used v s pa f .result)
+      Goal = MapAnswer p base used v (levelOf s) (mapped p (base / 4096) used v pa s f .result)
 
       go : (r : Walk) → found p (base / 4096) v ≡ r → Goal
       go (Leaf e) q =
@@ -285,10 +285,10 @@ module _ (p : List ℕ) (b v : ℕ) where
               let z : _≡_ {A = ℕ} 0 1 = cc in
               absurd (omega arith)
 
-  pub map-refused : (used : ℕ) (s : PageSize) (pa f : ℕ) (r : Refusal) → mapped p b used v s pa f .result ≡ map.Refused r → mapped p b used v s pa f .pool ≡ p
+  pub map-refused : (used : ℕ) (s : PageSize) (pa f : ℕ) (r : Refusal) → mapped p b used v pa s f .result ≡ map.Refused r → mapped p b used v pa s f .pool ≡ p
   map-refused used s pa f r = go (found p b v) refl
     where
-      go : (k : Walk) → found p b v ≡ k → mapped p b used v s pa f .result ≡ map.Refused r → mapped p b used v s pa f .pool ≡ p
+      go : (k : Walk) → found p b v ≡ k → mapped p b used v pa s f .result ≡ map.Refused r → mapped p b used v pa s f .pool ≡ p
       go (Leaf e) q h = rw q
       go (Open o) q h = ⊎-elim (λ c. ap (λ (u : Mapping). u .pool) (table-there p b used v s pa f o q c)) (λ c. ⊎-elim
           (λ d. ap (λ (u : Mapping). u .pool) (short p b used v s pa f o q c d))

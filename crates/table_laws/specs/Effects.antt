@@ -66,10 +66,10 @@ pub record Effects (p : List ℕ) (base used v : ℕ) : Type 0 where
   pub updates : (n : NewAddr) (f : NewFlags) (s : PageSize) → updated p (base / 4096) v n f .result ≡ update.Updated s
       → (w : ℕ) × (showsIn p base v ≡ view (levelOf s) w) × Rewrites p (updated p (base / 4096) v n f .pool) base used v (levelOf s) (newWord w s n f)
   -- map adds its page
-  pub maps : (s : PageSize) (pa f used′ : ℕ) → pa + sizeOf s ≤ 2 ^ 52 → mapped p (base / 4096) used v s pa f .result ≡ map.Mapped used′
-      → Adds p (mapped p (base / 4096) used v s pa f .pool) base used′ v (levelOf s) (leafFor s pa f)
-  pub map-answer : (s : PageSize) (pa f : ℕ) → MapAnswer p base used v (levelOf s) (mapped p (base / 4096) used v s pa f .result)
+  pub maps : (s : PageSize) (pa f used′ : ℕ) → pa + sizeOf s ≤ 2 ^ 52 → mapped p (base / 4096) used v pa s f .result ≡ map.Mapped used′
+      → Adds p (mapped p (base / 4096) used v pa s f .pool) base used′ v (levelOf s) (leafFor s pa f)
+  pub map-answer : (s : PageSize) (pa f : ℕ) → MapAnswer p base used v (levelOf s) (mapped p (base / 4096) used v pa s f .result)
   -- a refused call changes no word
   pub unmap-refused : (r : Refusal) → unmapped p (base / 4096) v .result ≡ unmap.Refused r → unmapped p (base / 4096) v .pool ≡ p
   pub update-refused : (n : NewAddr) (f : NewFlags) (r : Refusal) → updated p (base / 4096) v n f .result ≡ update.Refused r → updated p (base / 4096) v n f .pool ≡ p
-  pub map-refused : (s : PageSize) (pa f : ℕ) (r : Refusal) → mapped p (base / 4096) used v s pa f .result ≡ map.Refused r → mapped p (base / 4096) used v s pa f .pool ≡ p
+  pub map-refused : (s : PageSize) (pa f : ℕ) (r : Refusal) → mapped p (base / 4096) used v pa s f .result ≡ map.Refused r → mapped p (base / 4096) used v pa s f .pool ≡ p

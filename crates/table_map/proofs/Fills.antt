@@ -44,13 +44,13 @@ room-under len base u v o r h = record {
 
 -- what a map is, by what its tests show of the unused entry that the walk found
 module _ (p : List ℕ) (b used v : ℕ) (s : PageSize) (pa f : ℕ) (o : OpenEntry) (q : found p b v ≡ Open o) where
-  pub table-there : o .level < levelOf s → mapped p b used v s pa f ≡ record { result = Refused AlreadyMapped; pool = p }
+  pub table-there : o .level < levelOf s → mapped p b used v pa s f ≡ record { result = Refused AlreadyMapped; pool = p }
   table-there h = rw (q, lt-ltb (o .level) (levelOf s) h)
 
   module _ (h : levelOf s ≤ o .level) where
-    pub short : length p / 512 - used < o .level - levelOf s → mapped p b used v s pa f ≡ record { result = Refused NoFrames; pool = p }
+    pub short : length p / 512 - used < o .level - levelOf s → mapped p b used v pa s f ≡ record { result = Refused NoFrames; pool = p }
     short l = rw (q, le-ltb (o .level) (levelOf s) h, lt-ltb (length p / 512 - used) (o .level - levelOf s) l)
 
     pub done : o .level - levelOf s ≤ length p / 512 - used
-        → mapped p b used v s pa f ≡ record { result = Mapped (used + (o .level - levelOf s)); pool = filled (o .level - levelOf s) p b used v o (leafFor s pa f) }
+        → mapped p b used v pa s f ≡ record { result = Mapped (used + (o .level - levelOf s)); pool = filled (o .level - levelOf s) p b used v o (leafFor s pa f) }
     done l = rw (q, le-ltb (o .level) (levelOf s) h, le-ltb (length p / 512 - used) (o .level - levelOf s) l)

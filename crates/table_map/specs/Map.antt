@@ -66,5 +66,5 @@ byOpen (Leaf e) a f = a
 byOpen (Open o) a f = f o
 
 -- 7: "a used entry, or a larger leaf over the page"
-abbrev pub mapped : List ℕ → ℕ → ℕ → ℕ → PageSize → ℕ → ℕ → Mapping
-mapped p b used v s pa f = byOpen (found p b v) (record { result = Refused AlreadyMapped; pool = p }) (mapUnder p b used v (levelOf s) (leafFor s pa f))
+abbrev pub mapped : List ℕ → ℕ → ℕ → ℕ → ℕ → PageSize → ℕ → Mapping
+mapped p b used v pa s f = byOpen (found p b v) (record { result = Refused AlreadyMapped; pool = p }) (mapUnder p b used v (levelOf s) (leafFor s pa f))

@@ -32,7 +32,7 @@ pub fn level_of(size: PageSize) -> usize
     }
 }
 
-// Puts frame `next`, zeroed, under an unused entry as its table; the address's entry there.
+// Puts frame `next`, zeroed, under an unused entry as its table; answers the address's entry in it.
 fn create_table(
     pool: &mut [u64],
     base: u64,
@@ -92,7 +92,7 @@ pub fn map(
     flags: MMUFlags,
 ) -> MapResult
     requires { ⌜ Good (now pool) base used ⌝ }
-    ensures { λ r. ⌜ record { result = r; pool = now (pool .exit) } ≡ mapped (now (pool .entry)) (base / 4096) used vaddr size paddr (flags .0) ⌝ }
+    ensures { λ r. ⌜ record { result = r; pool = now (pool .exit) } ≡ mapped (now (pool .entry)) (base / 4096) used vaddr paddr size (flags .0) ⌝ }
 {
     let Walk::Open(spot) = walk::get_entry(pool, base, used, vaddr) else {
         return MapResult::Refused(Refusal::AlreadyMapped);

@@ -29,7 +29,7 @@ pub fn pages(size: u64) -> u64
     ceil(size, PAGE_SIZE)
 }
 
-// How many `align` the `x` needs: 0 where the sum wraps to less than one, as in the Rust, and of 0 none.
+// How many `align` the `x` needs: 0 where the sum wraps, as in the Rust, and 0 for `align` 0.
 pub fn ceil(x: u64, align: u64) -> u64
     ensures { λ r. ⌜ r ≡ needed x align ⌝ }
 {

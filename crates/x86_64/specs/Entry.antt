@@ -46,7 +46,7 @@ leafBy huge p f a = p + rights f + hugeBit huge + a * 2 ^ 5
 abbrev pub flagsOf : ℕ → ℕ
 flagsOf w = bit 0 w * READ + bit 1 w * WRITE + (1 - bit 63 w) * EXECUTE + bit 2 w * USER
 
--- so that READ comes with any right, and of the others each that was given
+-- so that READ comes with any right, and each other right that was given
 abbrev pub granted : ℕ → ℕ
 granted f = anyRight f * READ + has WRITE f * WRITE + has EXECUTE f * EXECUTE + has USER f * USER
 

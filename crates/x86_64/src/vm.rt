@@ -4,7 +4,7 @@
 //     NX      0      address     0    L   0   H   D   A    0    U   W   P      a leaf: L set, H where it is 2 MiB or 1 GiB
 //      0      0      address     0    0   0   0   D   A    0    1   1   1      a table entry
 //
-// The processor sets A and D. Nothing here reads them, and writing rights drops them.
+// The processor sets A and D. `addr` and `flags` ignore them, and writing rights drops them.
 use common::defs::MMUFlags;
 use common::defs::PhysAddr;
 use common::vm::PageSize;
@@ -49,7 +49,7 @@ impl PTF {
         )
     }
 
-    // What a larger leaf has more.
+    // The bit that a larger leaf has besides.
     fn huge(is_huge: bool) -> PTF
         ensures { λ r. ⌜ r .0 ≡ hugeBit «is_huge» ⌝ }
     {
