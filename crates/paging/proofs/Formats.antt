@@ -26,6 +26,7 @@ use Rattle.paging.specs.Format.{
   written,
   piece,
   Formats,
+  FormatsHold,
 }
 use Rattle.paging.proofs.Cases.{both, no-truth}
 use Rattle.paging.proofs.Levels.{span-suc, span-pos, offset-suc, index-lt}
@@ -152,3 +153,6 @@ module _ (F : Format) (G : Lawful F) where
         page (F .addr w + i * span l) (F .flags w) a (omega (arith, s .low)) (piece-aligned l w s i h) b refl;
     own-frame = λ l w a v x k. piece-own l w (subst (Is (suc l) w) k (is (suc l) w x)) a v;
   }
+
+pub formats-hold : FormatsHold
+formats-hold = record { holds = formats }

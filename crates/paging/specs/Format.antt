@@ -84,7 +84,7 @@ written F l w =
 abbrev pub piece : Format → ℕ → ℕ → ℕ → ℕ → ℕ
 piece F l w a i = F .leafWord l (F .addr w + i * span l) (F .flags w) a
 
--- what is proved of a format that meets the laws
+-- what is proved of every format that meets the laws: `FormatsHold`, below
 pub record Formats (F : Format) : Type 0 where
   -- whether the rules write a word is decided, both ways
   pub decided : (l w : ℕ) → Decided (Entry F l w) (written F l w)
@@ -98,3 +98,6 @@ pub record Formats (F : Format) : Type 0 where
   -- every address has in its piece the frame that it had in the whole
   pub own-frame : (l w a v : ℕ) → Entry F (suc l) w → F .kind (suc l) w ≡ leaf → a < 4
       → F .addr (piece F l w a (index l v)) + v % span l ≡ F .addr w + v % span (suc l)
+
+pub record FormatsHold : Type 0 where
+  pub holds : (F : Format) → Lawful F → Formats F

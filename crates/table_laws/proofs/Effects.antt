@@ -6,7 +6,7 @@ use mathlib.Core.Logic.{inl, inr, ⊎-elim}
 use mathlib.Core.List.{List}
 use native.Mathlib.Omega.{arith}
 use lib.ListN.{length}
-use Rattle.paging.specs.Level.{span, index, Canonical}
+use Rattle.paging.specs.Level.{span, index}
 use Rattle.paging.specs.Format.{Kind, byKind, blank, page}
 use Rattle.paging.specs.Table.{view, Translation, to, nowhere, translated, translates}
 use Rattle.paging.proofs.Cases.{below?}
@@ -38,7 +38,7 @@ use Rattle.table.proofs.Laws.{shown, gone, refused-address, rewritten}
 use Rattle.table_map.specs.Map.{filled, leafFor, mapped, Mapping}
 use Rattle.table_map.specs.declared.MapResult.the-variants as map
 use Rattle.table_map.proofs.Fills.{table-there, short, done}
-use Rattle.table_laws.specs.Effects.{showsIn, translatesIn, Rewrites, Adds, MapAnswer, in-the-way, Effects}
+use Rattle.table_laws.specs.Effects.{showsIn, translatesIn, Rewrites, Adds, MapAnswer, in-the-way, Effects, EffectsHold}
 use Rattle.table_laws.specs.Effects as effect
 use Rattle.table_laws.proofs.Writes.{rewrites}
 use Rattle.table_laws.proofs.Grows.{nowhere-blank, fills}
@@ -112,125 +112,124 @@ module _ (p : List ℕ) (base used v : ℕ) (G : Good p base used) where
           absurd (omega arith)
       go (Open o) q h = open-translates o q
 
-  module _ (cv : Canonical 4 v) where
-    unmaps : (a : ℕ) (s : PageSize) → unmapped p b v .result ≡ unmap.Unmapped a s
-        → (w : ℕ) × (showsIn p base v ≡ view (levelOf s) w) × (a ≡ addrOf w) × Rewrites p (unmapped p b v .pool) base used v (levelOf s) 0
-    unmaps a s = go (found p b v) refl
-      where
-        go : (r : Walk) → found p b v ≡ r → unmapped p b v .result ≡ unmap.Unmapped a s
-            → (w : ℕ) × (showsIn p base v ≡ view (levelOf s) w) × (a ≡ addrOf w) × Rewrites p (unmapped p b v .pool) base used v (levelOf s) 0
-        go (Open o) q h =
-            let none : unmap.Refused NotMapped ≡ unmap.Unmapped a s = rw q at h in
-            let z : _≡_ {A = ℕ} 0 1 = cc in
-            absurd (omega arith)
-        go (Leaf e) q h =
-            let o = over p b used (G .formed) v e q in
-            let w : ℕ = word p (e .frame) (e .place) in
-            let same : unmap.Unmapped (addrOf w) (e .size) ≡ unmap.Unmapped a s = sym (ap (λ (u : Unmapping). u .result) (gone p b v e q)) ∙ h in
-            let size : e .size ≡ s = cc in
-            let addr : addrOf w ≡ a = cc in
-            let l : o .l ≡ levelOf s = sym (size-level (o .l) (o .low)) ∙ ap levelOf (sym (o .size) ∙ size) in (
-              w,
-              shown-at (o .l) (e .frame) (e .place) (o .placed) ∙ ap (λ (m : ℕ). view m w) l,
-              sym addr,
-              subst (λ (x : List ℕ). Rewrites p x base used v (levelOf s) 0) (sym (ap (λ (u : Unmapping). u .pool) (gone p b v e q)))
-                  (subst (λ (m : ℕ). Rewrites p (putWord p (e .frame) (e .place) 0) base used v m 0) l
-                  (rewrites p base used G v (o .l) (e .frame) (e .place) 0 (o .placed) cv (blank refl) (nothing-bar (lawful .blank (o .l))))),
-            )
+  unmaps : (a : ℕ) (s : PageSize) → unmapped p b v .result ≡ unmap.Unmapped a s
+      → (w : ℕ) × (showsIn p base v ≡ view (levelOf s) w) × (a ≡ addrOf w) × Rewrites p (unmapped p b v .pool) base used v (levelOf s) 0
+  unmaps a s = go (found p b v) refl
+    where
+      go : (r : Walk) → found p b v ≡ r → unmapped p b v .result ≡ unmap.Unmapped a s
+          → (w : ℕ) × (showsIn p base v ≡ view (levelOf s) w) × (a ≡ addrOf w) × Rewrites p (unmapped p b v .pool) base used v (levelOf s) 0
+      go (Open o) q h =
+          let none : unmap.Refused NotMapped ≡ unmap.Unmapped a s = rw q at h in
+          let z : _≡_ {A = ℕ} 0 1 = cc in
+          absurd (omega arith)
+      go (Leaf e) q h =
+          let o = over p b used (G .formed) v e q in
+          let w : ℕ = word p (e .frame) (e .place) in
+          let same : unmap.Unmapped (addrOf w) (e .size) ≡ unmap.Unmapped a s = sym (ap (λ (u : Unmapping). u .result) (gone p b v e q)) ∙ h in
+          let size : e .size ≡ s = cc in
+          let addr : addrOf w ≡ a = cc in
+          let l : o .l ≡ levelOf s = sym (size-level (o .l) (o .low)) ∙ ap levelOf (sym (o .size) ∙ size) in (
+            w,
+            shown-at (o .l) (e .frame) (e .place) (o .placed) ∙ ap (λ (m : ℕ). view m w) l,
+            sym addr,
+            subst (λ (x : List ℕ). Rewrites p x base used v (levelOf s) 0) (sym (ap (λ (u : Unmapping). u .pool) (gone p b v e q)))
+                (subst (λ (m : ℕ). Rewrites p (putWord p (e .frame) (e .place) 0) base used v m 0) l
+                (rewrites p base used G v (o .l) (e .frame) (e .place) 0 (o .placed) (blank refl) (nothing-bar (lawful .blank (o .l))))),
+          )
 
-    updates : (n : NewAddr) (f : NewFlags) (s : PageSize) → updated p b v n f .result ≡ update.Updated s
-        → (w : ℕ) × (showsIn p base v ≡ view (levelOf s) w) × Rewrites p (updated p b v n f .pool) base used v (levelOf s) (newWord w s n f)
-    updates n f s = go (found p b v) refl
-      where
-        Goal : Type 0
-        Goal = (w : ℕ) × (showsIn p base v ≡ view (levelOf s) w) × Rewrites p (updated p b v n f .pool) base used v (levelOf s) (newWord w s n f)
+  updates : (n : NewAddr) (f : NewFlags) (s : PageSize) → updated p b v n f .result ≡ update.Updated s
+      → (w : ℕ) × (showsIn p base v ≡ view (levelOf s) w) × Rewrites p (updated p b v n f .pool) base used v (levelOf s) (newWord w s n f)
+  updates n f s = go (found p b v) refl
+    where
+      Goal : Type 0
+      Goal = (w : ℕ) × (showsIn p base v ≡ view (levelOf s) w) × Rewrites p (updated p b v n f .pool) base used v (levelOf s) (newWord w s n f)
 
-        go : (r : Walk) → found p b v ≡ r → updated p b v n f .result ≡ update.Updated s → Goal
-        go (Open o) q h =
-            let none : update.Refused NotMapped ≡ update.Updated s = rw q at h in
-            let z : _≡_ {A = ℕ} 0 1 = cc in
-            absurd (omega arith)
-        go (Leaf e) q h = tested (misplaced n (e .size)) refl
-          where
-            w : ℕ
-            w = word p (e .frame) (e .place)
+      go : (r : Walk) → found p b v ≡ r → updated p b v n f .result ≡ update.Updated s → Goal
+      go (Open o) q h =
+          let none : update.Refused NotMapped ≡ update.Updated s = rw q at h in
+          let z : _≡_ {A = ℕ} 0 1 = cc in
+          absurd (omega arith)
+      go (Leaf e) q h = tested (misplaced n (e .size)) refl
+        where
+          w : ℕ
+          w = word p (e .frame) (e .place)
 
-            tested : (t : Bool) → misplaced n (e .size) ≡ t → Goal
-            tested true m =
-                let none : update.Refused InvalidArgs ≡ update.Updated s = sym (ap (λ (u : Updating). u .result) (refused-address p b v e q n f m)) ∙ h in
-                let z : _≡_ {A = ℕ} 0 1 = cc in
-                absurd (omega arith)
-            tested false m =
-                let o = over p b used (G .formed) v e q in
-                let r = rewritten p b v e q n f m in
-                let same : update.Updated (e .size) ≡ update.Updated s = sym (ap (λ (u : Updating). u .result) r) ∙ h in
-                let size : e .size ≡ s = cc in
-                let l : o .l ≡ levelOf s = sym (size-level (o .l) (o .low)) ∙ ap levelOf (sym (o .size) ∙ size) in
-                let L : LeafAt (levelOf s) w = subst (λ (m : ℕ). LeafAt m w) l (record { fits = o .placed .fits; kind = o .kind }) in
-                let N : LeafAt (levelOf s) (newWord w s n f) = new-leaf s w L n f (rw size at m) in
-                let P : Placed p b used (G .formed) v (levelOf s) (e .frame) (e .place) = subst (λ (m : ℕ). Placed p b used (G .formed) v m (e .frame) (e .place)) l (o .placed) in
-                let pool : updated p b v n f .pool ≡ putWord p (e .frame) (e .place) (newWord w s n f) =
-                ap (λ (u : Updating). u .pool) r ∙ ap (λ (z : PageSize). putWord p (e .frame) (e .place) (newWord w z n f)) size in (
-                  w,
-                  shown-at (levelOf s) (e .frame) (e .place) P,
-                  subst (λ (x : List ℕ). Rewrites p x base used v (levelOf s) (newWord w s n f)) (sym pool)
-                      (rewrites p base used G v (levelOf s) (e .frame) (e .place) (newWord w s n f) P cv (N .fits) (leaf-bar (N .kind))),
-                )
+          tested : (t : Bool) → misplaced n (e .size) ≡ t → Goal
+          tested true m =
+              let none : update.Refused InvalidArgs ≡ update.Updated s = sym (ap (λ (u : Updating). u .result) (refused-address p b v e q n f m)) ∙ h in
+              let z : _≡_ {A = ℕ} 0 1 = cc in
+              absurd (omega arith)
+          tested false m =
+              let o = over p b used (G .formed) v e q in
+              let r = rewritten p b v e q n f m in
+              let same : update.Updated (e .size) ≡ update.Updated s = sym (ap (λ (u : Updating). u .result) r) ∙ h in
+              let size : e .size ≡ s = cc in
+              let l : o .l ≡ levelOf s = sym (size-level (o .l) (o .low)) ∙ ap levelOf (sym (o .size) ∙ size) in
+              let L : LeafAt (levelOf s) w = subst (λ (m : ℕ). LeafAt m w) l (record { fits = o .placed .fits; kind = o .kind }) in
+              let N : LeafAt (levelOf s) (newWord w s n f) = new-leaf s w L n f (rw size at m) in
+              let P : Placed p b used (G .formed) v (levelOf s) (e .frame) (e .place) = subst (λ (m : ℕ). Placed p b used (G .formed) v m (e .frame) (e .place)) l (o .placed) in
+              let pool : updated p b v n f .pool ≡ putWord p (e .frame) (e .place) (newWord w s n f) =
+              ap (λ (u : Updating). u .pool) r ∙ ap (λ (z : PageSize). putWord p (e .frame) (e .place) (newWord w z n f)) size in (
+                w,
+                shown-at (levelOf s) (e .frame) (e .place) P,
+                subst (λ (x : List ℕ). Rewrites p x base used v (levelOf s) (newWord w s n f)) (sym pool)
+                    (rewrites p base used G v (levelOf s) (e .frame) (e .place) (newWord w s n f) P (N .fits) (leaf-bar (N .kind))),
+              )
 
-    maps : (s : PageSize) (pa f used′ : ℕ) → pa + sizeOf s ≤ 2 ^ 52 → mapped p b used v pa s f .result ≡ map.Mapped used′
-        → Adds p (mapped p b used v pa s f .pool) base used′ v (levelOf s) (leafFor s pa f)
-    maps s pa f used′ room = go (found p b v) refl
-      where
-        Goal : Type 0
-        Goal = Adds p (mapped p b used v pa s f .pool) base used′ v (levelOf s) (leafFor s pa f)
+  maps : (s : PageSize) (pa f used′ : ℕ) → pa + sizeOf s ≤ 2 ^ 52 → mapped p b used v pa s f .result ≡ map.Mapped used′
+      → Adds p (mapped p b used v pa s f .pool) base used′ v (levelOf s) (leafFor s pa f)
+  maps s pa f used′ room = go (found p b v) refl
+    where
+      Goal : Type 0
+      Goal = Adds p (mapped p b used v pa s f .pool) base used′ v (levelOf s) (leafFor s pa f)
 
-        go : (r : Walk) → found p b v ≡ r → mapped p b used v pa s f .result ≡ map.Mapped used′ → Goal
-        go (Leaf e) q h =
-            let none : map.Refused AlreadyMapped ≡ map.Mapped used′ = rw q at h in
-            let z : _≡_ {A = ℕ} 0 1 = cc in
-            absurd (omega arith)
-        go (Open o) q h = ⊎-elim table-in-way (λ c. ⊎-elim (short-of c) (enough c) (below? (length p / 512 - used) (o .level - levelOf s))) (below? (o .level) (levelOf s))
-          where
-            table-in-way : o .level < levelOf s → Goal
-            table-in-way c =
-                let none : map.Refused AlreadyMapped ≡ map.Mapped used′ = sym (ap (λ (u : Mapping). u .result) (table-there p b used v s pa f o q c)) ∙ h in
-                let z : _≡_ {A = ℕ} 0 1 = cc in
-                absurd (omega arith)
+      go : (r : Walk) → found p b v ≡ r → mapped p b used v pa s f .result ≡ map.Mapped used′ → Goal
+      go (Leaf e) q h =
+          let none : map.Refused AlreadyMapped ≡ map.Mapped used′ = rw q at h in
+          let z : _≡_ {A = ℕ} 0 1 = cc in
+          absurd (omega arith)
+      go (Open o) q h = ⊎-elim table-in-way (λ c. ⊎-elim (short-of c) (enough c) (below? (length p / 512 - used) (o .level - levelOf s))) (below? (o .level) (levelOf s))
+        where
+          table-in-way : o .level < levelOf s → Goal
+          table-in-way c =
+              let none : map.Refused AlreadyMapped ≡ map.Mapped used′ = sym (ap (λ (u : Mapping). u .result) (table-there p b used v s pa f o q c)) ∙ h in
+              let z : _≡_ {A = ℕ} 0 1 = cc in
+              absurd (omega arith)
 
-            short-of : levelOf s ≤ o .level → length p / 512 - used < o .level - levelOf s → Goal
-            short-of c d =
-                let none : map.Refused NoFrames ≡ map.Mapped used′ = sym (ap (λ (u : Mapping). u .result) (short p b used v s pa f o q c d)) ∙ h in
-                let z : _≡_ {A = ℕ} 0 1 = cc in
-                absurd (omega arith)
+          short-of : levelOf s ≤ o .level → length p / 512 - used < o .level - levelOf s → Goal
+          short-of c d =
+              let none : map.Refused NoFrames ≡ map.Mapped used′ = sym (ap (λ (u : Mapping). u .result) (short p b used v s pa f o q c d)) ∙ h in
+              let z : _≡_ {A = ℕ} 0 1 = cc in
+              absurd (omega arith)
 
-            enough : levelOf s ≤ o .level → o .level - levelOf s ≤ length p / 512 - used → Goal
-            enough c d =
-                let n : ℕ = o .level - levelOf s in
-                let r = done p b used v s pa f o q c d in
-                let same : map.Mapped (used + n) ≡ map.Mapped used′ = sym (ap (λ (u : Mapping). u .result) r) ∙ h in
-                let e : used + n ≡ used′ = cc in
-                let L = map-leaf s pa f room in
-                let g = G .sized in
-                let F =
-                fills b v (levelOf s) (leafFor s pa f) cv (L .fits) (leaf-bar (L .kind)) n p used (G .formed) o (unused p b used (G .formed) v o q)
-                (omega arith) (omega (arith, g .there)) (omega (arith, g .there, g .below, g .page)) in
-                subst (λ (x : List ℕ). Adds p x base used′ v (levelOf s) (leafFor s pa f)) (sym (ap (λ (u : Mapping). u .pool) r))
-                (subst (λ (k : ℕ). Adds p (filled n p b used v o (leafFor s pa f)) base k v (levelOf s) (leafFor s pa f)) e
-                (record {
-                  good = record {
-                    sized = rw (F .long) (record {
-                      whole = g .whole;
-                      few = g .few;
-                      page = g .page;
-                      below = g .below;
-                      root = omega (arith, g .root);
-                      there = omega (arith, g .there);
-                    });
-                    formed = F .formed;
-                  };
-                  inside = F .inside;
-                  outside = F .outside;
-                }))
+          enough : levelOf s ≤ o .level → o .level - levelOf s ≤ length p / 512 - used → Goal
+          enough c d =
+              let n : ℕ = o .level - levelOf s in
+              let r = done p b used v s pa f o q c d in
+              let same : map.Mapped (used + n) ≡ map.Mapped used′ = sym (ap (λ (u : Mapping). u .result) r) ∙ h in
+              let e : used + n ≡ used′ = cc in
+              let L = map-leaf s pa f room in
+              let g = G .sized in
+              let F =
+              fills b v (levelOf s) (leafFor s pa f) (L .fits) (leaf-bar (L .kind)) n p used (G .formed) o (unused p b used (G .formed) v o q)
+              (omega arith) (omega (arith, g .there)) (omega (arith, g .there, g .below, g .page)) in
+              subst (λ (x : List ℕ). Adds p x base used′ v (levelOf s) (leafFor s pa f)) (sym (ap (λ (u : Mapping). u .pool) r))
+              (subst (λ (k : ℕ). Adds p (filled n p b used v o (leafFor s pa f)) base k v (levelOf s) (leafFor s pa f)) e
+              (record {
+                good = record {
+                  sized = rw (F .long) (record {
+                    whole = g .whole;
+                    few = g .few;
+                    page = g .page;
+                    below = g .below;
+                    root = omega (arith, g .root);
+                    there = omega (arith, g .there);
+                  });
+                  formed = F .formed;
+                };
+                inside = F .inside;
+                outside = F .outside;
+              }))
 
 module _ (p : List ℕ) (base used v : ℕ) (G : Good p base used) where
   map-answer : (s : PageSize) (pa f : ℕ) → MapAnswer p base used v (levelOf s) (mapped p (base / 4096) used v pa s f .result)
@@ -301,15 +300,18 @@ module _ (p : List ℕ) (b v : ℕ) where
               let z : _≡_ {A = ℕ} 0 1 = cc in
               omega arith
 
-pub effects : (p : List ℕ) (base used v : ℕ) → Good p base used → Canonical 4 v → Effects p base used v
-effects p base used v G cv = record {
+pub effects : (p : List ℕ) (base used v : ℕ) → Good p base used → Effects p base used v
+effects p base used v G = record {
   queries = queries p base used v G;
   queries-not = queries-not p base used v G;
-  unmaps = unmaps p base used v G cv;
-  updates = updates p base used v G cv;
-  maps = maps p base used v G cv;
+  unmaps = unmaps p base used v G;
+  updates = updates p base used v G;
+  maps = maps p base used v G;
   map-answer = map-answer p base used v G;
   unmap-refused = unmap-refused p (base / 4096) v;
   update-refused = update-refused p (base / 4096) v;
   map-refused = map-refused p (base / 4096) v used;
 }
+
+pub effects-hold : EffectsHold
+effects-hold = record { holds = effects }

@@ -156,10 +156,10 @@ module _ (p : List ℕ) (b u : ℕ) (T : WellFormed p b u) (v : ℕ) (o : OpenEn
 pub record Filled (p p′ : List ℕ) (b u′ v t w : ℕ) : Type 0 where
   pub formed : WellFormed p′ b u′
   pub inside : (x : ℕ) → x / span t ≡ v / span t → shows x86 (memOf p′ b) b x ≡ view t w
-  pub outside : (x : ℕ) → Canonical 4 x → (x / span t ≡ v / span t → ⊥) → translates x86 (memOf p′ b) b x ≡ translates x86 (memOf p b) b x
+  pub outside : Canonical 4 v → (x : ℕ) → Canonical 4 x → (x / span t ≡ v / span t → ⊥) → translates x86 (memOf p′ b) b x ≡ translates x86 (memOf p b) b x
   pub long : length p′ ≡ length p
 
-module _ (b v t w : ℕ) (cv : Canonical 4 v) (fit : Entry x86 t w) (bar : NoTable (x86 .kind t w)) where
+module _ (b v t w : ℕ) (fit : Entry x86 t w) (bar : NoTable (x86 .kind t w)) where
   -- the entry is at the page's level: the word is written there
   last : (p : List ℕ) (u : ℕ) (T : WellFormed p b u) (o : OpenEntry) → Unused p b u T v o → o .level ≡ t → u * 512 ≤ length p → Filled p (putWord p (o .frame) (o .place) w) b u v t w
   unfolding translates
@@ -168,7 +168,7 @@ module _ (b v t w : ℕ) (cv : Canonical 4 v) (fit : Entry x86 t w) (bar : NoTab
       record {
         formed = formed-after p b u T v t (o .frame) (o .place) w P room fit bar;
         inside = inside-after p b u T v t (o .frame) (o .place) w P room fit bar;
-        outside = λ x cx ne. ap (translated x86 x) (outside-after p b u T v t (o .frame) (o .place) w P room cv x cx ne);
+        outside = λ cv x cx ne. ap (translated x86 x) (outside-after p b u T v t (o .frame) (o .place) w P room cv x cx ne);
         long = length-set p (o .frame * 512 + o .place) w;
       }
 
@@ -178,7 +178,7 @@ module _ (b v t w : ℕ) (cv : Canonical 4 v) (fit : Entry x86 t w) (bar : NoTab
   more p p″ u u′ m T o U lower room bound r = record {
     formed = r .formed;
     inside = r .inside;
-    outside = λ x cx ne. r .outside x cx ne ∙ same-translation p b u T v o U m lower room bound cv x cx;
+    outside = λ cv x cx ne. r .outside cv x cx ne ∙ same-translation p b u T v o U m lower room bound cv x cx;
     long = r .long ∙ grown-length p b u o room;
   }
 

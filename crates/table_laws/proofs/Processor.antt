@@ -25,7 +25,7 @@ use Rattle.walk.proofs.Found.{over}
 use Rattle.table.specs.Table.{queried}
 use Rattle.table.specs.declared.QueryResult.the-variants.{Page, Refused}
 use Rattle.table.proofs.Laws.{shown}
-use Rattle.table_laws.specs.Processor.{InMemory, Processor}
+use Rattle.table_laws.specs.Processor.{InMemory, Processor, ProcessorAgrees}
 use Rattle.table_laws.proofs.Effects.{size-bytes, shown-at, queries, queries-not}
 
 -- the kind of a word, by the format and by its definition
@@ -86,3 +86,6 @@ module _ (p : List ℕ) (base used : ℕ) (G : Good p base used) (mem : ℕ → 
     holds = λ v a f s q h. at-base v (agrees .unreadable v a (f .0) (queries p base used v G a f s q) h);
     lacks = λ v q. at-base v (agrees .unmapped v (queries-not p base used v G q));
   }
+
+pub processor-agrees : ProcessorAgrees
+processor-agrees = record { holds = λ p base used mem G M. processor p base used G mem M }

@@ -63,9 +63,9 @@ module _ (p : List ℕ) (base used : ℕ) (G : Good p base used) (v l f k w : �
   pub sized-after : Sized (length (putWord p f k w)) base used
   sized-after = rw (length-set p (f * 512 + k) w) (G .sized)
 
-  pub rewrites : Canonical 4 v → Entry x86 l w → NoTable (x86 .kind l w) → Rewrites p (putWord p f k w) base used v l w
-  rewrites cv fit bar = record {
+  pub rewrites : Entry x86 l w → NoTable (x86 .kind l w) → Rewrites p (putWord p f k w) base used v l w
+  rewrites fit bar = record {
     good = record { sized = sized-after; formed = formed-after p (base / 4096) used (G .formed) v l f k w P fits fit bar };
     inside = inside-after p (base / 4096) used (G .formed) v l f k w P fits fit bar;
-    outside = outside-after p (base / 4096) used (G .formed) v l f k w P fits cv;
+    outside = outside-after p (base / 4096) used (G .formed) v l f k w P fits;
   }

@@ -37,13 +37,13 @@ translatesIn p base v = translates x86 (memOf p (base / 4096)) (base / 4096) v
 pub record Rewrites (p p′ : List ℕ) (base used v l w : ℕ) : Type 0 where
   pub good : Good p′ base used
   pub inside : (x : ℕ) → x / span l ≡ v / span l → showsIn p′ base x ≡ view l w
-  pub outside : (x : ℕ) → Canonical 4 x → (x / span l ≡ v / span l → ⊥) → showsIn p′ base x ≡ showsIn p base x
+  pub outside : Canonical 4 v → (x : ℕ) → Canonical 4 x → (x / span l ≡ v / span l → ⊥) → showsIn p′ base x ≡ showsIn p base x
 
 -- a page of level t over v now holds w, and no other address is translated otherwise
 pub record Adds (p p′ : List ℕ) (base used′ v t w : ℕ) : Type 0 where
   pub good : Good p′ base used′
   pub inside : (x : ℕ) → x / span t ≡ v / span t → showsIn p′ base x ≡ view t w
-  pub outside : (x : ℕ) → Canonical 4 x → (x / span t ≡ v / span t → ⊥) → translatesIn p′ base x ≡ translatesIn p base x
+  pub outside : Canonical 4 v → (x : ℕ) → Canonical 4 x → (x / span t ≡ v / span t → ⊥) → translatesIn p′ base x ≡ translatesIn p base x
 
 -- what a map of a page of level t answers, by what the table shows of v before: 7, 8 or success, one of them and no other
 pub data MapAnswer (p : List ℕ) (base used v t : ℕ) (r : MapResult) : Type 0 where
@@ -54,7 +54,7 @@ pub data MapAnswer (p : List ℕ) (base used v t : ℕ) (r : MapResult) : Type 0
   -- each of them takes a frame
   done : (l : ℕ) → showsIn p base v ≡ view l 0 → t ≤ l → l - t ≤ length p / 512 - used → r ≡ map.Mapped (used + (l - t)) → MapAnswer p base used v t r
 
--- For every well-formed table and every address of the two halves:
+-- What is proved of every good pool and every address: `EffectsHold`, below. Where other addresses are spoken of, v and they are of the two halves.
 pub record Effects (p : List ℕ) (base used v : ℕ) : Type 0 where
   -- query answers what the address translates to, and refuses exactly where that is nothing
   pub queries : (a : ℕ) (f : MMUFlags) (s : PageSize) → queried p (base / 4096) v ≡ query.Page a f s → translatesIn p base v ≡ to a (f .0)
@@ -73,3 +73,6 @@ pub record Effects (p : List ℕ) (base used v : ℕ) : Type 0 where
   pub unmap-refused : (r : Refusal) → unmapped p (base / 4096) v .result ≡ unmap.Refused r → unmapped p (base / 4096) v .pool ≡ p
   pub update-refused : (n : NewAddr) (f : NewFlags) (r : Refusal) → updated p (base / 4096) v n f .result ≡ update.Refused r → updated p (base / 4096) v n f .pool ≡ p
   pub map-refused : (s : PageSize) (pa f : ℕ) (r : Refusal) → mapped p (base / 4096) used v pa s f .result ≡ map.Refused r → mapped p (base / 4096) used v pa s f .pool ≡ p
+
+pub record EffectsHold : Type 0 where
+  pub holds : (p : List ℕ) (base used v : ℕ) → Good p base used → Effects p base used v

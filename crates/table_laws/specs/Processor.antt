@@ -10,6 +10,7 @@ use Rattle.common.specs.declared.vm.PageSize.{PageSize}
 use Rattle.intel.specs.Intel.{Rights, fault, maps, intel}
 use Rattle.intel.specs.Agrees.{SameRights}
 use Rattle.pool.specs.Pool.{word}
+use Rattle.form.specs.Form.{Good}
 use Rattle.refusal.specs.declared.Refusal.the-variants.{NotMapped}
 use Rattle.table.specs.Table.{queried}
 use Rattle.table.specs.declared.QueryResult.the-variants.{Page, Refused}
@@ -18,7 +19,7 @@ use Rattle.table.specs.declared.QueryResult.the-variants.{Page, Refused}
 abbrev pub InMemory : List ℕ → ℕ → ℕ → (ℕ → ℕ) → Type 0
 InMemory p base used mem = (i k : ℕ) → i < used → k < 512 → mem (base + i * 4096 + k * 8) ≡ word p i k
 
--- the processor's CR3 holds the pool's base
+-- What is proved of every good pool that memory holds, with its base in CR3: `ProcessorAgrees`, below.
 pub record Processor (p : List ℕ) (base : ℕ) (mem : ℕ → ℕ) : Type 0 where
   -- a page that can be read: the same address, size and rights
   pub reads : (v a : ℕ) (f : MMUFlags) (s : PageSize) → queried p (base / 4096) v ≡ Page a f s → has READ (f .0) ≡ 1
@@ -27,3 +28,6 @@ pub record Processor (p : List ℕ) (base : ℕ) (mem : ℕ → ℕ) : Type 0 wh
   pub holds : (v a : ℕ) (f : MMUFlags) (s : PageSize) → queried p (base / 4096) v ≡ Page a f s → has READ (f .0) ≡ 0 → intel mem base v ≡ fault
   -- nothing there: a fault
   pub lacks : (v : ℕ) → queried p (base / 4096) v ≡ Refused NotMapped → intel mem base v ≡ fault
+
+pub record ProcessorAgrees : Type 0 where
+  pub holds : (p : List ℕ) (base used : ℕ) (mem : ℕ → ℕ) → Good p base used → InMemory p base used mem → Processor p base mem
