@@ -6,7 +6,7 @@ use native.Mathlib.Nat.{div-add-mod', mod-eq-of-lt}
 use lib.Bits.{bitAnd, and-mask, and-high}
 use lib.Pow.{pow-pos, shr-lt}
 use Rattle.paging.specs.Level.{span}
-use Rattle.common.specs.Page.{levelOf, sizeOf}
+use Rattle.common.specs.Page.{levelOf, sizeOf, Sizes}
 use Rattle.common.specs.declared.vm.PageSize.{PageSize}
 use Rattle.common.specs.declared.vm.PageSize.the-variants.{Size4K, Size2M, Size1G}
 
@@ -41,3 +41,6 @@ pub mask-high : (s : PageSize) (a : ℕ) → a < 2 ^ 64 → bitAnd a (2 ^ 64 - s
 mask-high Size4K a h = above-mask 52 12 a h
 mask-high Size2M a h = above-mask 43 21 a h
 mask-high Size1G a h = above-mask 34 30 a h
+
+pub sizes : Sizes
+sizes = record { spans = size-span; low = level-le; offset = mask-low; above = mask-high }

@@ -1,7 +1,9 @@
 -- Page sizes. States document 01, 'Entries and translation': leaves of 4 KiB, 2 MiB and 1 GiB. What a size contributes to any
 -- proof is its level: the span of an entry there.
-use Prim.Native.Nat.{ℕ, _%_}
+use Prim.Native.Nat.{ℕ, _-_, _%_, _^_, _≤_, _<_}
+use mathlib.Core.Path.{_≡_}
 use mathlib.Core.Bool.{Bool, true, false}
+use lib.Bits.{bitAnd}
 use lib.Dec.{eqb}
 use Rattle.paging.specs.Level.{span}
 use Rattle.common.specs.declared.vm.PageSize.{PageSize}
@@ -27,3 +29,11 @@ abbrev pub isHuge : PageSize → Bool
 isHuge Size4K = false
 isHuge Size2M = true
 isHuge Size1G = true
+
+-- what a size contributes to any proof, shown once by its level
+pub record Sizes : Type 0 where
+  pub spans : (s : PageSize) → sizeOf s ≡ span (levelOf s)
+  pub low : (s : PageSize) → levelOf s ≤ 2
+  -- the mask below a size keeps the offset, and its complement what stands above
+  pub offset : (s : PageSize) (a : ℕ) → bitAnd a (sizeOf s - 1) ≡ a % sizeOf s
+  pub above : (s : PageSize) (a : ℕ) → a < 2 ^ 64 → bitAnd a (2 ^ 64 - sizeOf s) ≡ a - a % sizeOf s

@@ -3,3 +3,4 @@ pub mod Grows
 pub mod Leaves
 pub mod Effects
 pub mod Processor
+pub mod Frames
