@@ -5,7 +5,7 @@
 --     bits      47 – 39    38 – 30    29 – 21    20 – 12    11 – 0
 --     spans     512 GiB     1 GiB      2 MiB      4 KiB
 --
--- In this order: what an entry spans, the indexes, an address put together again, the addresses of n levels, the theorems.
+-- In this order: what an entry spans, the indexes, an address put together again, the addresses of n levels, ranges of them, the theorems.
 use Prim.Native.Nat.{ℕ, zero, suc, _+_, _-_, _*_, _/_, _%_, _^_, _≤_, _<_}
 use mathlib.Core.Path.{_≡_}
 use mathlib.Core.Logic.{_⊎_}
@@ -29,6 +29,10 @@ half n = 2 ^ (11 + 9 * n)
 
 abbrev pub Canonical : ℕ → ℕ → Type 0
 Canonical n v = (v < half n) ⊎ ((2 ^ 64 - half n ≤ v) × (v < 2 ^ 64))
+
+-- a range [a, e) of such addresses, in one half; the end of the lower half is itself no such address
+abbrev pub Within : ℕ → ℕ → ℕ → Type 0
+Within n a e = (a ≤ e) × ((e ≤ half n) ⊎ ((2 ^ 64 - half n ≤ a) × (e < 2 ^ 64)))
 
 -- What is proved of them, for any level t at which a page stands and any number k of levels from there up; where two halves are told apart, of
 -- k + 1 levels, five at most, since the addresses have 64 bits.
