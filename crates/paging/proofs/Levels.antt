@@ -15,6 +15,7 @@ use native.Mathlib.Nat.{
   lt-of-mul-lt-mul-right,
   add-mul,
   suc-mul,
+  mul-assoc,
 }
 use lib.Pow.{pow-add, pow-pos, mod-pow-add}
 use lib.Dec.{lit<}
@@ -84,10 +85,10 @@ descend t (suc k) v v′ e same = descend t k v v′ here (λ l a b. same l a (o
 -- The two halves of the addresses of m + 1 levels: in the lower the highest index is below 256 and nothing stands above it,
 -- in the upper it is at least 256 and what stands above it is all ones.
 module _ (m : ℕ) (h : m ≤ 4) where
-  abbrev K : ℕ
+  abbrev pub K : ℕ
   K = 2 ^ (52 - 9 * suc m)
 
-  half-is : half (suc m) ≡ 256 * span m
+  pub half-is : half (suc m) ≡ 256 * span m
   half-is = ap (λ (k : ℕ). 2 ^ k) e ∙ pow-add 2 8 (12 + 9 * m)
     where
       e : 11 + 9 * suc m ≡ 8 + (12 + 9 * m)
@@ -99,17 +100,24 @@ module _ (m : ℕ) (h : m ≤ 4) where
       e : 64 ≡ (52 - 9 * suc m) + (12 + 9 * suc m)
       e = omega arith
 
+  -- the entries of level m that the 64 bits hold
+  pub all-blocks : 2 ^ 64 / span m ≡ K * 512
+  all-blocks = div-eq-of-lt-le (span m) (omega (arith, e)) (omega (arith, e, add-mul (K * 512) 1 (span m), span-pos m))
+    where
+      e : K * 512 * span m ≡ 2 ^ 64
+      e = mul-assoc K 512 (span m) ∙ ap (λ (n : ℕ). K * n) (sym (span-suc m)) ∙ sym all-is
+
   one-less : (K - 1) * span (suc m) + span (suc m) ≡ 2 ^ 64
   one-less = sym (suc-mul (K - 1) (span (suc m))) ∙ ap (λ (k : ℕ). k * span (suc m)) e ∙ sym all-is
     where
       e : suc (K - 1) ≡ K
       e = omega (arith, pow-pos (52 - 9 * suc m))
 
-  data Side (v : ℕ) : Type 0 where
+  pub data Side (v : ℕ) : Type 0 where
     lower : v / span (suc m) ≡ 0 → index m v < 256 → Side v
     upper : v / span (suc m) ≡ K - 1 → 256 ≤ index m v → Side v
 
-  side : (v : ℕ) → Canonical (suc m) v → Side v
+  pub side : (v : ℕ) → Canonical (suc m) v → Side v
   side v (inl a) = lower (div-eq-of-lt in-span) (lt-of-mul-lt-mul-right (span m) i)
     where
       in-span : v < span (suc m)

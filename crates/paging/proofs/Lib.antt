@@ -4,3 +4,5 @@ pub mod Formats
 pub mod Walks
 pub mod Changes
 pub mod Splits
+pub mod Counts
+pub mod Sums

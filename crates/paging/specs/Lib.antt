@@ -4,3 +4,5 @@ pub mod Format
 pub mod Table
 pub mod Way
 pub mod Split
+pub mod Cut
+pub mod Need
