@@ -6,3 +6,4 @@ pub mod Changes
 pub mod Splits
 pub mod Counts
 pub mod Sums
+pub mod Downs

@@ -1,12 +1,13 @@
 -- A leaf that gives way to a table of its pieces changes no translation.
-use Prim.Native.Nat.{ℕ, suc, _+_, _-_, _/_, _%_, _<_, _≤_}
+use Prim.Native.Nat.{ℕ, suc, _+_, _-_, _*_, _/_, _%_, _<_, _≤_}
 use mathlib.Core.Path.{_≡_, refl, sym, ap, _∙_, subst}
 use mathlib.Core.Logic.{⊎-elim}
 use native.Mathlib.Omega.{arith}
 use Rattle.paging.specs.Level.{span, index, Canonical}
-use Rattle.paging.specs.Format.{Kind, leaf, table, byKind, Format, Lawful, Entry, pointer, piece}
+use Rattle.paging.specs.Format.{Kind, leaf, table, byKind, Format, LeafReads, Lawful, Entry, pointer, piece}
 use Rattle.paging.specs.Table.{view, shows, to, nowhere, translated, translates, Formed}
 use Rattle.paging.specs.Split.{Split, Splits}
+use Rattle.paging.specs.Need.{leafLevel, over}
 use Rattle.paging.proofs.Cases.{same?}
 use Rattle.paging.proofs.Levels.{index-lt}
 use Rattle.paging.proofs.Formats.{formats}
@@ -61,28 +62,54 @@ module _ (F : Format) (W W′ : ℕ → ℕ → ℕ) (In In′ : ℕ → Type 0)
   as-leaf : (m v z : ℕ) → F .kind m z ≡ leaf → translated F v (view m z) ≡ to (F .addr z + v % span m) (F .flags z)
   as-leaf m v z e = ap (λ (k : Kind). byKind k nowhere (to (F .addr z + v % span m) (F .flags z)) (λ t. nowhere)) e
 
+  as-level : (m z : ℕ) → F .kind m z ≡ leaf → leafLevel F (view m z) ≡ m
+  as-level m z e = ap (λ (k : Kind). byKind k 0 m (λ t. 0)) e
+
+  -- in the leaf, what was seen before and what is seen now
+  before : (v : ℕ) → v / span (E .l) ≡ x / span (E .l) → shows F W root v ≡ view (suc l) w
+  before v e =
+      let word : W (E .n) (index (E .l) x) ≡ w = ap (λ (m : ℕ). W m (index (E .l) x)) frame ∙ ap (W n) place in
+      inside F W W In root T x E (λ m k t g ne. refl) v e (E .last) ∙ ap (view (E .l)) word ∙ ap (λ (m : ℕ). view m w) level
+
+  after : (v : ℕ) → v / span (E .l) ≡ x / span (E .l) → shows F W′ root v ≡ view l (piece F l w a (index l v))
+  after v e =
+      let h = index-lt l v in
+      grown F W W′ In root T x E other v e l u level tab (leaf-bar (piece-kind (index l v) h)) ∙ ap (view l) (S .pieces (index l v) h)
+
+  reads : (v : ℕ) → LeafReads F l (piece F l w a (index l v)) (F .addr w + index l v * span l) (F .flags w) a
+  reads v = formats F G .piece-reads l w a (index l v) fits (S .whole) (S .few) (index-lt l v)
+
+  at-level : (v : ℕ) → v / span (suc l) ≡ x / span (suc l) → v / span (E .l) ≡ x / span (E .l)
+  at-level v e = rw level e
+
+  whole : (v : ℕ) → v / span (suc l) ≡ x / span (suc l) → over F W root v ≡ suc l
+  whole v e = ap (leafLevel F) (before v (at-level v e)) ∙ as-level (suc l) w (S .whole)
+
+  near : (v : ℕ) → v / span (suc l) ≡ x / span (suc l) → over F W′ root v ≡ l
+  near v e = ap (leafLevel F) (after v (at-level v e)) ∙ as-level l (piece F l w a (index l v)) (reads v .kind)
+
+  far : (v : ℕ) → Canonical (suc (F .top)) v → (v / span (suc l) ≡ x / span (suc l) → ⊥) → shows F W′ root v ≡ shows F W root v
+  far v cv ne = outside F W W′ In root T x E other low cx v cv (rw level ne)
+
   same : (v : ℕ) → Canonical (suc (F .top)) v → translates F W′ root v ≡ translates F W root v
   unfolding translates
-  same v cv = ⊎-elim near far (same? (v / span (E .l)) (x / span (E .l)))
+  same v cv = ⊎-elim within (λ ne. ap (translated F v) (outside F W W′ In root T x E other low cx v cv ne)) (same? (v / span (E .l)) (x / span (E .l)))
     where
-      far : (v / span (E .l) ≡ x / span (E .l) → ⊥) → translated F v (shows F W′ root v) ≡ translated F v (shows F W root v)
-      far ne = ap (translated F v) (outside F W W′ In root T x E other low cx v cv ne)
-
-      near : v / span (E .l) ≡ x / span (E .l) → translated F v (shows F W′ root v) ≡ translated F v (shows F W root v)
-      near e =
-          let h = index-lt l v in
-          let i : ℕ = index l v in
-          let r = formats F G .piece-reads l w a i fits (S .whole) (S .few) h in
-          let after : shows F W′ root v ≡ view l (piece F l w a i) =
-          grown F W W′ In root T x E other v e l u level tab (leaf-bar (piece-kind i h)) ∙ ap (view l) (S .pieces i h) in
-          let word : W (E .n) (index (E .l) x) ≡ w = ap (λ (m : ℕ). W m (index (E .l) x)) frame ∙ ap (W n) place in
-          let before : shows F W root v ≡ view (suc l) w =
-          inside F W W In root T x E (λ m k t g ne. refl) v e (E .last) ∙ ap (view (E .l)) word ∙ ap (λ (m : ℕ). view m w) level in
-          ap (translated F v) after
-          ∙ as-leaf l v (piece F l w a i) (r .kind)
-          ∙ ap (λ (z : ℕ). to z (F .flags (piece F l w a i))) (formats F G .own-frame l w a v fits (S .whole) (S .few))
-          ∙ ap (to (F .addr w + v % span (suc l))) (r .flags)
-          ∙ sym (ap (translated F v) before ∙ as-leaf (suc l) v w (S .whole))
+      within : v / span (E .l) ≡ x / span (E .l) → translated F v (shows F W′ root v) ≡ translated F v (shows F W root v)
+      within e =
+          ap (translated F v) (after v e)
+          ∙ as-leaf l v (piece F l w a (index l v)) (reads v .kind)
+          ∙ ap (λ (z : ℕ). to z (F .flags (piece F l w a (index l v)))) (formats F G .own-frame l w a v fits (S .whole) (S .few))
+          ∙ ap (to (F .addr w + v % span (suc l))) (reads v .flags)
+          ∙ sym (ap (translated F v) (before v e) ∙ as-leaf (suc l) v w (S .whole))
 
 pub splits : Splits
-splits = record { holds = λ F W W′ In In′ root x l n u a G low marks T cx S. record { formed = formed F W W′ In In′ root x l n u a G low marks T cx S; same = same F W W′ In In′ root x l n u a G low marks T cx S } }
+splits = record {
+  holds = λ F W W′ In In′ root x l n u a G low marks T cx S. record {
+    formed = formed F W W′ In In′ root x l n u a G low marks T cx S;
+    same = same F W W′ In In′ root x l n u a G low marks T cx S;
+    whole = whole F W W′ In In′ root x l n u a G low marks T cx S;
+    near = near F W W′ In In′ root x l n u a G low marks T cx S;
+    far = far F W W′ In In′ root x l n u a G low marks T cx S;
+  };
+}

@@ -3,6 +3,7 @@ pub mod Level
 pub mod Format
 pub mod Table
 pub mod Way
+pub mod Need
 pub mod Split
 pub mod Cut
-pub mod Need
+pub mod Steps
