@@ -7,3 +7,4 @@ pub mod Splits
 pub mod Counts
 pub mod Sums
 pub mod Downs
+pub mod Between

@@ -6,10 +6,14 @@ use Prim.Native.Nat.{ℕ, suc, _+_, _*_, _/_, _%_, _^_, _≤_, _<_}
 use mathlib.Core.Path.{_≡_}
 use mathlib.Core.Logic.{_⊎_}
 use Rattle.paging.specs.Level.{span, index}
-use Rattle.paging.specs.Format.{Format, Entry}
-use Rattle.paging.specs.Table.{hit, walk}
+use Rattle.paging.specs.Format.{table, Format, Entry}
+use Rattle.paging.specs.Table.{hit, walk, View, view}
 use Rattle.paging.specs.Need.{over}
 use Rattle.paging.specs.Split.{Split}
+
+-- what is seen of an entry after it
+abbrev pub rewritten : (ℕ → ℕ → ℕ) → View → View
+rewritten g (view l w) = view l (g l w)
 
 module _ (F : Format) (In : ℕ → ℕ → Type 0) (next : ℕ → ℕ) (root : ℕ) where
   -- the leaf over x is split while x falls into it: from the memory W, k frames taken, to W′ and k′
@@ -24,6 +28,12 @@ module _ (F : Format) (In : ℕ → ℕ → Type 0) (next : ℕ → ℕ) (root :
     rewrites : (v : ℕ) (W W₁ W′ : ℕ → ℕ → ℕ) (l n : ℕ) → v < e → walk F W (F .top) root v ≡ hit l n (index l v)
         → W₁ n (index l v) ≡ g l (W n (index l v)) → ((m i : ℕ) → In k m → i < 512 → ((m ≡ n) × (i ≡ index l v) → ⊥) → W₁ m i ≡ W m i)
         → Rewritten g e k (v / span l * span l + span l) W₁ W′ → Rewritten g e k v W W′
+
+  -- what may be written in the place of an entry that is no table: an entry of its level that is none; an unused entry stays unused
+  pub record Tame (g : ℕ → ℕ → ℕ) : Type 0 where
+    pub blank : (l : ℕ) → g l 0 ≡ 0
+    pub fits : (l w : ℕ) → Entry F l w → ((m : ℕ) → F .kind l w ≡ table m → ⊥) → Entry F l (g l w)
+    pub flat : (l w : ℕ) → Entry F l w → ((m : ℕ) → F .kind l w ≡ table m → ⊥) → (m : ℕ) → F .kind l (g l w) ≡ table m → ⊥
 
   -- both: [a, e) of W, k frames taken, gives W′ and k′ of them
   pub record Ranged (g : ℕ → ℕ → ℕ) (a e : ℕ) (W : ℕ → ℕ → ℕ) (k : ℕ) (W′ : ℕ → ℕ → ℕ) (k′ : ℕ) : Type 0 where
