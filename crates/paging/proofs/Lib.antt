@@ -8,3 +8,4 @@ pub mod Counts
 pub mod Sums
 pub mod Downs
 pub mod Between
+pub mod Cuts

@@ -173,11 +173,11 @@ module _ (F : Format) (G : Lawful F) (low : F .top ≤ 4) (W : ℕ → ℕ → �
           by (table m) q = omega arith
 
   module _ (a e : ℕ) (h : a < e) (r : Within (suc (F .top)) a e) where
-    begins : Canonical (suc (F .top)) a
+    pub begins : Canonical (suc (F .top)) a
     begins = ⊎-elim (λ l. inl (omega arith)) (λ u. inr (u .0, omega (arith, u .1))) (r .1)
 
     -- the end is such an address too, or every leaf that it could fall into ends there
-    ends : Canonical (suc (F .top)) e ⊎ (e % span (F .top) ≡ 0)
+    pub ends : Canonical (suc (F .top)) e ⊎ (e % span (F .top) ≡ 0)
     ends = ⊎-elim in-lower (λ u. inl (inr (omega (arith, u .0), u .1))) (r .1)
       where
         in-lower : e ≤ half (suc (F .top)) → Canonical (suc (F .top)) e ⊎ (e % span (F .top) ≡ 0)

@@ -5,5 +5,5 @@ pub mod Table
 pub mod Way
 pub mod Need
 pub mod Split
-pub mod Cut
 pub mod Steps
+pub mod Cut
