@@ -6,7 +6,7 @@ use native.Mathlib.Omega.{arith}
 use lib.ListN.{length, take, drop, getD, set, replicate, length-take, length-drop}
 use lib.Seq.{getD-take, getD-drop, drop-drop, drop-length}
 use borrow.Rule.Slice.PartMut.{putMid, set-mid-at}
-use Rattle.pool.specs.Pool.{frameAt, word, putWord, zeroed}
+use Rattle.pool.specs.Pool.{frameAt, word, putWord, putFrame}
 
 pub width : (i : ℕ) → i * 512 + 512 - i * 512 ≡ 512
 width i = omega arith
@@ -21,9 +21,11 @@ pub put-at : (p : List ℕ) (i k v : ℕ) → i * 512 + 512 ≤ length p → k <
     → putMid (i * 512) (i * 512 + 512 - i * 512) p (set (take (i * 512 + 512 - i * 512) (drop (i * 512) p)) k v) ≡ putWord p i k v
 put-at p i k v h l = rw (width i) (set-mid-at (i * 512) 512 k p v (rw (frame-length p i h) l))
 
-pub put-zero : (p ys : List ℕ) (i : ℕ) → ys ≡ replicate 512 0
-    → putMid (i * 512) (i * 512 + 512 - i * 512) p ys ≡ zeroed p i
-put-zero p ys i e = rw (width i, e) (ap (λ (t : List ℕ). take (i * 512) p ++ (replicate 512 0 ++ t)) (drop-drop 512 (i * 512) p))
+pub put-frame : (p ys ws : List ℕ) (i : ℕ) → ys ≡ ws → putMid (i * 512) (i * 512 + 512 - i * 512) p ys ≡ putFrame p i ws
+put-frame p ys ws i e = rw (width i, e) (ap (λ (t : List ℕ). take (i * 512) p ++ (ws ++ t)) (drop-drop 512 (i * 512) p))
+
+pub part-length : (p : List ℕ) (i : ℕ) → i * 512 + 512 ≤ length p → length (take (i * 512 + 512 - i * 512) (drop (i * 512) p)) ≡ 512
+part-length p i h = rw (width i) (frame-length p i h)
 
 -- a list of n zeros and nothing after them
 pub filled : (f d : List ℕ) (j : ℕ) → f ≡ replicate j 0 ++ drop j d → j ≤ length d → length d ≤ j → f ≡ replicate (length d) 0

@@ -1,8 +1,8 @@
 -- `zero_frame`: a part of zeros is back in the pool.
-use Rattle.pool.proofs.Frames.{width, frame-length, put-zero}
+use Rattle.pool.proofs.Frames.{put-frame, part-length}
 use mathlib.Core.Path.{_≡_, ap, _∙_}
-use Prim.Native.Nat.{ℕ, _+_, _-_, _*_}
-use lib.ListN.{length, replicate, take, drop}
+use Prim.Native.Nat.{ℕ}
+use lib.ListN.{replicate}
 use denote.Ref.{now}
 use borrow.Author.Needs.{needs}
 use Rattle.pool.proofs.zero_frame.Statement.{statement}
@@ -36,8 +36,7 @@ returns : tie.Need-returns
 returns c =
     let s = c .before .before .before .before .before in
     let a = s .args in
-    let n : length (take (a .i * 512 + 512 - a .i * 512) (drop (a .i * 512) (now (a .pool)))) ≡ 512 = rw (width (a .i)) (frame-length (now (a .pool)) (a .i) (s .pre)) in
-    put-zero (now (a .pool)) _ (a .i) (c .before .before .zero-words .ensures ∙ ap (λ (k : ℕ). replicate k 0) n)
+    put-frame (now (a .pool)) _ (replicate 512 0) (a .i) (c .before .before .zero-words .ensures ∙ ap (λ (k : ℕ). replicate k 0) (part-length (now (a .pool)) (a .i) (s .pre)))
 
 pub zero-frame-spec : {M : Type 1} → statement M
 zero-frame-spec =
