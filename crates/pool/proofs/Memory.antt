@@ -1,15 +1,22 @@
 -- The pool as memory, after one word is written and after one frame is zeroed.
 use Prim.Native.Nat.{ℕ, zero, suc, _+_, _-_, _*_, _≤_, _<_}
 use mathlib.Core.Path.{_≡_, refl, sym, ap, _∙_}
-use mathlib.Core.Logic.{⊎-elim}
+use mathlib.Core.Logic.{_⊎_, inl, inr, ⊎-elim}
 use mathlib.Core.List.{List, [], _∷_, _++_, append-nil, append-assoc}
 use native.Mathlib.Omega.{arith}
 use native.Mathlib.Nat.{add-sub-cancel-left}
 use native.Mathlib.Numerals.{add-one}
 use lib.ListN.{length, take, drop, getD, set, replicate, length-append, length-take, length-drop, length-replicate, getD-replicate, List·getD-append}
 use lib.Seq.{getD-take, getD-append-add, getD-set-same, getD-set-other, set-at, drop-cons, drop-length}
-use Rattle.pool.specs.Pool.{word, putWord, putFrame, zeroed, listed, memOf}
+use Rattle.pool.specs.Pool.{word, putWord, putFrame, zeroed, listed, memOf, Taken}
 use Rattle.paging.proofs.Cases.{same?, below?}
+
+-- one frame more is taken
+pub taken-was : (b u n : ℕ) → Taken b (u + 1) n → Taken b u n ⊎ (n ≡ b + u)
+taken-was b u n t = ⊎-elim (λ (e : n ≡ b + u). inr e) (λ ne. inl (t .0, go ne)) (same? n (b + u))
+  where
+    go : (n ≡ b + u → ⊥) → n < b + u
+    go ne = ⊎-elim (λ h. h) (λ h. absurd (ne (omega (arith, t .1)))) (below? n (b + u))
 
 -- the word at place k of the frame with the number b + f
 pub mem-at : (p : List ℕ) (b f k : ℕ) → memOf p b (b + f) k ≡ word p f k

@@ -16,7 +16,7 @@ use Rattle.paging.proofs.Changes.{End, end, outside, inside, grown-walk, grown,
 use Rattle.x86_64.specs.Entry.{tableWord, x86}
 use Rattle.x86_64.proofs.Format.{lawful}
 use Rattle.pool.specs.Pool.{word, putWord, zeroed, memOf, Taken}
-use Rattle.pool.proofs.Memory.{mem-at, put-same, put-other, zeroed-length, zeroed-before, zeroed-in}
+use Rattle.pool.proofs.Memory.{taken-was, mem-at, put-same, put-other, zeroed-length, zeroed-before, zeroed-in}
 use Rattle.form.specs.Form.{WellFormed}
 use Rattle.walk.specs.declared.OpenEntry.{OpenEntry}
 use Rattle.walk.proofs.Found.{Placed, Unused}
@@ -81,18 +81,12 @@ module _ (p : List ℕ) (b u : ℕ) (T : WellFormed p b u) (v : ℕ) (o : OpenEn
   unfolding x86
   flat k h = rw (fresh-word k h) (nothing-bar refl)
 
-  was : (n : ℕ) → Taken b (u + 1) n → Taken b u n ⊎ (n ≡ b + u)
-  was n t = ⊎-elim (λ (e : n ≡ b + u). inr e) (λ ne. inl (t .0, go ne)) (same? n (b + u))
-    where
-      go : (n ≡ b + u → ⊥) → n < b + u
-      go ne = ⊎-elim (λ h. h) (λ h. absurd (ne (omega (arith, t .1)))) (below? n (b + u))
-
   pub formed-grown : WellFormed p′ b (u + 1)
   formed-grown =
       formed-grow x86 (memOf p b) (memOf p′ b) (Taken b u) b T v E elsewhere (Taken b (u + 1)) (b + u) m
       (λ n t. (t .0, omega (arith, t .1)))
       (omega arith, omega arith)
-      was
+      (taken-was b u)
       (λ t. omega (arith, t .1))
       level
       fit
