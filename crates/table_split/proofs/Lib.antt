@@ -1,3 +1,4 @@
 pub mod Pieces
 pub mod Once
 pub mod Unfolds
+pub mod Downs
