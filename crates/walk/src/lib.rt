@@ -4,7 +4,7 @@ use common::vm::PageSize;
 use x86_64::vm::X86PTE;
 ghost use mathlib.Core.Path.{_≡_};
 ghost use Prim.Native.Nat.{_/_, _≤_};
-ghost use Rattle.paging.specs.Level.{index};
+ghost use Rattle.paging.specs.Level.{span, index};
 ghost use Rattle.form.specs.Form.{Good};
 ghost use Rattle.walk.specs.Walk.{sizeAt, found};
 
@@ -37,6 +37,19 @@ pub fn index_at(level: usize, vaddr: VirtAddr) -> usize
         1 => index::p2_index(vaddr),
         2 => index::p3_index(vaddr),
         _ => index::p4_index(vaddr),
+    }
+}
+
+// The bytes that an entry of the level spans.
+pub fn span_at(level: usize) -> u64
+    requires { ⌜ level ≤ 3 ⌝ }
+    ensures { λ r. ⌜ r ≡ span level ⌝ }
+{
+    match level {
+        0 => 0x1000,
+        1 => 0x20_0000,
+        2 => 0x4000_0000,
+        _ => 0x80_0000_0000,
     }
 }
 

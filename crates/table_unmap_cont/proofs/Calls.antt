@@ -1,0 +1,21 @@
+-- What `unmapCont` is, by its tests.
+use Prim.Native.Nat.{ℕ, _+_, _-_, _/_, _≤_, _<_}
+use mathlib.Core.Path.{_≡_}
+use mathlib.Core.List.{List}
+use lib.ListN.{length}
+use borrow.Author.Tests.{lt-ltb, le-ltb, eq-eqb, ne-eqb}
+use Rattle.refusal.specs.declared.Refusal.the-variants.{NoFrames}
+use Rattle.table_unmap_cont.specs.UnmapCont.{needed, splitEnds, cleared, unmapCont}
+use Rattle.table_unmap_cont.specs.declared.UnmapContResult.the-variants.{Unmapped, Refused}
+
+module _ (p : List ℕ) (b used v n : ℕ) where
+  pub cont-empty : n ≡ 0 → record { result = Unmapped 0; pool = p } ≡ unmapCont p b used v n
+  cont-empty e = rw (eq-eqb n 0 e)
+
+  module _ (some : n ≡ 0 → ⊥) where
+    pub cont-short : length p / 512 - used < needed p b v (v + n) → record { result = Refused NoFrames; pool = p } ≡ unmapCont p b used v n
+    cont-short h = rw (ne-eqb n 0 some, lt-ltb (length p / 512 - used) (needed p b v (v + n)) h)
+
+    pub cont-done : needed p b v (v + n) ≤ length p / 512 - used
+        → record { result = Unmapped (needed p b v (v + n)); pool = cleared (v + n - v) (splitEnds p b used v (v + n) .pool) b v (v + n) } ≡ unmapCont p b used v n
+    cont-done h = rw (ne-eqb n 0 some, le-ltb (length p / 512 - used) (needed p b v (v + n)) h)

@@ -1,0 +1,4 @@
+pub mod Clears
+pub mod Needs
+pub mod Ends
+pub mod Calls
