@@ -44,7 +44,7 @@ module _ (p : List ℕ) (base used : ℕ) (G : Good p base used) (a e : ℕ) (pa
   pub start-room : used + splits a (leafOver p (base / 4096) a) ≤ length p / 512
   start-room = omega (arith, room, G .sized .there)
 
-  abbrev t₁ : Tables
+  abbrev pub t₁ : Tables
   t₁ = splitAt 2 p (base / 4096) used a
 
   pub D₁ : Downs p base used a t₁

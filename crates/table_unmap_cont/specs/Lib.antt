@@ -1,1 +1,2 @@
 pub mod UnmapCont
+pub mod Demand
