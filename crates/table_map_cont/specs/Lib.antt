@@ -1,0 +1,2 @@
+pub mod MapCont
+pub mod Count
