@@ -128,23 +128,27 @@ module _ (p : List ℕ) (b u : ℕ) (T : WellFormed p b u) (v : ℕ) (o : OpenEn
       zero-word : word p′ u (index (o .level - 1) v) ≡ 0
       zero-word = sym (mem-at p′ b u (index (o .level - 1) v)) ∙ fresh-word (index (o .level - 1) v) (index-lt (o .level - 1) v)
 
+  -- an address outside the entry sees what it saw
+  pub grown-far : Canonical 4 v → (x : ℕ) → Canonical 4 x → (x / span (E .l) ≡ v / span (E .l) → ⊥) → shows x86 (memOf p′ b) b x ≡ shows x86 (memOf p b) b x
+  unfolding x86
+  grown-far cv x cx ne = outside x86 (memOf p b) (memOf p′ b) (Taken b u) b T v E elsewhere (omega arith) cv x cx ne
+
+  -- one inside saw the unused entry, and sees one of the new table
+  pub grown-near : (x : ℕ) → x / span (E .l) ≡ v / span (E .l) → (shows x86 (memOf p b) b x ≡ view (suc m) 0) × (shows x86 (memOf p′ b) b x ≡ view m 0)
+  grown-near x e =
+      let w : memOf p b (E .n) (index (E .l) v) ≡ 0 =
+      ap (λ (n : ℕ). memOf p b n (index (E .l) v)) (U .placed .number) ∙ mem-at p b (o .frame) (index (E .l) v) ∙ ap (word p (o .frame)) place ∙ U .blank in (
+        inside x86 (memOf p b) (memOf p b) (Taken b u) b T v E (λ n i t h ne. refl) x e (E .last) ∙ ap (view (E .l)) w ∙ ap (λ (l : ℕ). view l 0) level,
+        grown x86 (memOf p b) (memOf p′ b) (Taken b u) b T v E elsewhere x e m (b + u) level tab (flat (index m x) (index-lt m x)) ∙ ap (view m) (fresh-word (index m x) (index-lt m x)),
+      )
+
   -- no address is translated otherwise
   pub same-translation : Canonical 4 v → (x : ℕ) → Canonical 4 x → translates x86 (memOf p′ b) b x ≡ translates x86 (memOf p b) b x
-  unfolding translates x86
-  same-translation cv x cx = ⊎-elim near far (same? (x / span (E .l)) (v / span (E .l)))
-    where
-      far : (x / span (E .l) ≡ v / span (E .l) → ⊥) → translated x86 x (shows x86 (memOf p′ b) b x) ≡ translated x86 x (shows x86 (memOf p b) b x)
-      far ne = ap (translated x86 x) (outside x86 (memOf p b) (memOf p′ b) (Taken b u) b T v E elsewhere (omega arith) cv x cx ne)
-
-      near : x / span (E .l) ≡ v / span (E .l) → translated x86 x (shows x86 (memOf p′ b) b x) ≡ translated x86 x (shows x86 (memOf p b) b x)
-      near e =
-          let after : shows x86 (memOf p′ b) b x ≡ view m 0 =
-          grown x86 (memOf p b) (memOf p′ b) (Taken b u) b T v E elsewhere x e m (b + u) level tab (flat (index m x) (index-lt m x)) ∙ ap (view m) (fresh-word (index m x) (index-lt m x)) in
-          let w : memOf p b (E .n) (index (E .l) v) ≡ 0 =
-          ap (λ (n : ℕ). memOf p b n (index (E .l) v)) (U .placed .number) ∙ mem-at p b (o .frame) (index (E .l) v) ∙ ap (word p (o .frame)) place ∙ U .blank in
-          let before : shows x86 (memOf p b) b x ≡ view (E .l) 0 =
-          inside x86 (memOf p b) (memOf p b) (Taken b u) b T v E (λ n i t h ne. refl) x e (E .last) ∙ ap (view (E .l)) w in
-          ap (translated x86 x) after ∙ nowhere-blank x m ∙ sym (nowhere-blank x (E .l)) ∙ sym (ap (translated x86 x) before)
+  unfolding translates
+  same-translation cv x cx = ⊎-elim
+      (λ e. ap (translated x86 x) (grown-near x e .1) ∙ nowhere-blank x m ∙ sym (nowhere-blank x (suc m)) ∙ sym (ap (translated x86 x) (grown-near x e .0)))
+      (λ ne. ap (translated x86 x) (grown-far cv x cx ne))
+      (same? (x / span (E .l)) (v / span (E .l)))
 
 -- the page of level t over v holds w, in a pool of the same length with u′ tables, and no other address is translated otherwise
 pub record Filled (p p′ : List ℕ) (b u′ v t w : ℕ) : Type 0 where

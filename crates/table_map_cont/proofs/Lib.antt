@@ -1,2 +1,4 @@
 pub mod Heights
+pub mod Pages
+pub mod Lowered
 pub mod Steps
