@@ -2,3 +2,4 @@ pub mod Heights
 pub mod Pages
 pub mod Lowered
 pub mod Steps
+pub mod Counted

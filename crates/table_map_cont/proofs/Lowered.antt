@@ -2,7 +2,6 @@
 -- the address parts from the page. It goes by levels alone: which frames the tables are in does not matter.
 use Prim.Native.Nat.{ℕ, zero, suc, _+_, _-_, _*_, _/_, _^_, _≤_, _<_, min}
 use mathlib.Core.Path.{_≡_, refl, sym, ap, _∙_}
-use mathlib.Core.Bool.{Bool}
 use mathlib.Core.Logic.{⊎-elim}
 use mathlib.Core.List.{List}
 use native.Mathlib.Omega.{arith}
@@ -11,18 +10,14 @@ use lib.ListN.{length}
 use borrow.Author.Tests.{ne-eqb}
 use Rattle.paging.specs.Choice.{pick}
 use Rattle.paging.specs.Level.{span, index, Canonical}
-use Rattle.paging.specs.Format.{Entry}
 use Rattle.paging.specs.Table.{View, view, shows}
 use Rattle.paging.proofs.Cases.{same?, below?}
-use Rattle.paging.proofs.Levels.{index-lt}
-use Rattle.paging.proofs.Walks.{NoTable}
 use Rattle.paging.proofs.Changes.{End, end, inside}
 use Rattle.x86_64.specs.Entry.{x86}
-use Rattle.pool.specs.Pool.{word, putWord, memOf, Taken}
-use Rattle.pool.proofs.Memory.{mem-at}
+use Rattle.pool.specs.Pool.{putWord, memOf, Taken}
 use Rattle.form.specs.Form.{WellFormed}
 use Rattle.walk.specs.declared.OpenEntry.{OpenEntry}
-use Rattle.walk.proofs.Found.{Placed, Unused}
+use Rattle.walk.proofs.Found.{Unused}
 use Rattle.table_map.specs.Map as map
 use Rattle.table_map.specs.Map.{under, filled}
 use Rattle.table_map.proofs.Fills.{grown-length}
@@ -33,11 +28,14 @@ use Rattle.table_map_cont.proofs.Pages.{above, Part}
 abbrev pub lowered : ℕ → View → View
 lowered d (view l w) = pick (eqb w 0) (view (min l d) 0) (view l w)
 
+pub lowered-used : (d l w : ℕ) → (w ≡ 0 → ⊥) → lowered d (view l w) ≡ view l w
+lowered-used d l w ne = rw (ne-eqb w 0 ne)
+
 -- what is no higher than d already
 keeps-low : (d l w : ℕ) → (w ≡ 0 → l ≤ d) → view l w ≡ lowered d (view l w)
 keeps-low d l w h = ⊎-elim
     (λ (e : w ≡ 0). let q : l ≡ min l d = omega (arith, h e) in rw e (ap (λ (m : ℕ). view m 0) q))
-    (λ ne. rw (ne-eqb w 0 ne))
+    (λ ne. sym (lowered-used d l w ne))
     (same? w 0)
 
 pub lowered-twice : (d d′ : ℕ) (o : View) → d ≤ d′ → lowered d (lowered d′ o) ≡ lowered d o
@@ -74,7 +72,7 @@ module _ (p : List ℕ) (b u : ℕ) (T : WellFormed p b u) (v : ℕ) (o : OpenEn
           let l : E .l ≡ X .l = cc in
           omega (arith, l, U .placed .level)
 
-module _ (b v t w : ℕ) (fit : Entry x86 t w) (bar : NoTable (x86 .kind t w)) (cv : Canonical 4 v) (x : ℕ) (cx : Canonical 4 x) (d : ℕ) (P : Part v x d) (low : t ≤ d) where
+module _ (b v t w : ℕ) (cv : Canonical 4 v) (x : ℕ) (cx : Canonical 4 x) (d : ℕ) (P : Part v x d) (low : t ≤ d) where
   none : (p : List ℕ) (u : ℕ) (T : WellFormed p b u) (o : OpenEntry) → Unused p b u T v o → o .level ≡ t → u * 512 ≤ length p
       → shows x86 (memOf (putWord p (o .frame) (o .place) w) b) b x ≡ lowered d (shows x86 (memOf p b) b x)
   none p u T o U e room =

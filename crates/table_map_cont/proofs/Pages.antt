@@ -102,6 +102,13 @@ part-begins v h e top = record {
     lower : (begins v ≡ 3 → ⊥) → begins v < 3
     lower ne = ⊎-elim (λ r. r) (λ r. absurd (ne (omega (arith, begins-low v)))) (below? (begins v) 3)
 
+-- and so not below a level at which it is aligned
+pub part-aligned : (t v d : ℕ) → v % span t ≡ 0 → 0 < v → Part (v - 1) v d → t ≤ d
+part-aligned t v d e h P = ⊎-elim
+    (λ (a : d < t). absurd (off-block (span t) (span-pos t) v e (v - 1) (inl (omega arith)) (sym (above (suc d) t v (v - 1) a (P .joined)))))
+    (λ (a : t ≤ d). a)
+    (below? d t)
+
 -- the addresses of a range are of one half
 pub canonical : (a e x : ℕ) → Within 4 a e → a ≤ x → x < e → Canonical 4 x
 canonical a e x (h, inl y) g k = inl (omega arith)
