@@ -3,3 +3,4 @@ pub mod Pages
 pub mod Lowered
 pub mod Steps
 pub mod Counted
+pub mod Runs

@@ -133,3 +133,6 @@ range-on top v pa n t R F =
         → (v + span t + (n - span t) ≤ half 4) ⊎ ((2 ^ 64 - half 4 ≤ v + span t) × (v + span t + (n - span t) < 2 ^ 64))
     sides (inl h) = inl (omega (arith, F .room))
     sides (inr h) = inr (omega (arith, h .0), omega (arith, h .1, F .room))
+
+pub range-below : (v n pa : ℕ) → Range v n pa → v + n < 2 ^ 64
+range-below v n pa R = ⊎-elim (λ h. omega arith) (λ h. h .1) (R .within .1)

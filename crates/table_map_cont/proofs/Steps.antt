@@ -2,13 +2,16 @@
 use Prim.Native.Nat.{ℕ, zero, suc, _+_, _-_, _*_, _/_, _%_, _≤_, _<_, min}
 use mathlib.Core.Path.{_≡_, refl, sym, ap, _∙_}
 use mathlib.Core.List.{List}
+use mathlib.Core.Logic.{⊎-elim}
 use native.Mathlib.Omega.{arith}
 use lib.ListN.{length}
 use borrow.Author.Tests.{eq-eqb, ne-eqb, lt-ltb, le-ltb}
 use Rattle.paging.specs.Level.{span}
+use Rattle.paging.proofs.Cases.{below?}
 use Rattle.refusal.specs.declared.Refusal.{Refusal}
 use Rattle.refusal.specs.declared.Refusal.the-variants.{AlreadyMapped, NoFrames}
 use Rattle.walk.specs.Walk.{sizeAt, found}
+use Rattle.walk.specs.declared.Walk.{Walk}
 use Rattle.walk.specs.declared.Walk.the-variants.{Leaf, Open}
 use Rattle.walk.specs.declared.LeafEntry.{LeafEntry}
 use Rattle.walk.specs.declared.OpenEntry.{OpenEntry}
@@ -33,6 +36,32 @@ module _ (p : List ℕ) (b used c v t : ℕ) where
 
       pub page-done : min (o .level) c - t ≤ length p / 512 - used → countPage p b used c v t ≡ Mapped (used + (min (o .level) c - t))
       page-done g = rw (q, le-ltb (o .level) t h, le-ltb (length p / 512 - used) (min (o .level) c - t) g)
+
+  -- as many frames as there are
+  pub page-few : (u : ℕ) → countPage p b used c v t ≡ Mapped u → used ≤ length p / 512 → u ≤ length p / 512
+  page-few u e h = go (found p b v) refl
+    where
+      go : (r : Walk) → found p b v ≡ r → u ≤ length p / 512
+      go (Leaf l) q =
+          let z : Refused AlreadyMapped ≡ Mapped u = sym (page-taken l q) ∙ e in
+          let y : _≡_ {A = ℕ} 0 1 = cc in
+          absurd (omega arith)
+      go (Open o) q = ⊎-elim
+          (λ g.
+          let z : Refused AlreadyMapped ≡ Mapped u = sym (page-over o q g) ∙ e in
+          let y : _≡_ {A = ℕ} 0 1 = cc in
+          absurd (omega arith))
+          (λ g. ⊎-elim
+          (λ k.
+          let z : Refused NoFrames ≡ Mapped u = sym (page-short o q g k) ∙ e in
+          let y : _≡_ {A = ℕ} 0 1 = cc in
+          absurd (omega arith))
+          (λ k.
+          let z : Mapped (used + (min (o .level) c - t)) ≡ Mapped u = sym (page-done o q g k) ∙ e in
+          let y : used + (min (o .level) c - t) ≡ u = cc in
+          omega arith)
+          (below? (length p / 512 - used) (min (o .level) c - t)))
+          (below? (o .level) t)
 
 -- the count of a range, by what it makes of the first page, of level t
 module _ (p : List ℕ) (b used c v pa n top : ℕ) where
