@@ -1,10 +1,14 @@
 -- The two loops: what holds at each turn of the count and of the writing.
 use Prim.Native.Nat.{ℕ, zero, suc, _+_, _-_, _*_, _/_, _%_, _^_, _≤_, _<_, min}
 use mathlib.Core.Path.{_≡_, refl, sym, ap, _∙_}
+use mathlib.Core.Bool.{Bool, true, false}
 use mathlib.Core.List.{List}
 use native.Mathlib.Omega.{arith}
+use lib.Dec.{eqb}
 use lib.ListN.{length}
+use Rattle.paging.specs.Choice.{pick}
 use Rattle.paging.specs.Level.{span}
+use Rattle.common.specs.Flags.{HUGE_PAGE, has}
 use Rattle.common.specs.Page.{sizeOf}
 use Rattle.form.specs.Form.{Good}
 use Rattle.refusal.specs.declared.Refusal.{Refusal}
@@ -13,7 +17,7 @@ use Rattle.table_map.specs.Map.{mapped, Mapping}
 use Rattle.table_map.specs.declared.MapResult.{MapResult}
 use Rattle.table_map.specs.declared.MapResult.the-variants.{Mapped, Refused}
 use Rattle.table_laws.proofs.Effects.{size-bytes, effects}
-use Rattle.table_map_cont.specs.MapCont.{Range, pageLevel, pages}
+use Rattle.table_map_cont.specs.MapCont.{Range, largest, topLevel, pageLevel, pages, orNothing}
 use Rattle.table_map_cont.specs.Count.{begins, countPage, counted}
 use Rattle.table_map_cont.proofs.Heights.{Fits, page-fits, begins-least}
 use Rattle.table_map_cont.proofs.Pages.{span-page, range-on}
@@ -117,3 +121,18 @@ module _ (base top f : ℕ) (all : Mapping) (p : List ℕ) (taken v pa n : ℕ) 
 
 pub write-start : (p : List ℕ) (base top f used v pa n : ℕ) → Range v n pa → Good p base used → Writing base top f (pages (n / 4096) p (base / 4096) used v pa n top f) p used v pa n
 write-start p base top f used v pa n R G = record { fuel = n / 4096; enough = omega (arith, R .size); same = refl; range = R; good = G }
+
+-- the flags allow no level above that of the largest leaf
+pub top-low : (f : ℕ) → topLevel f ≤ 2
+top-low f = go (eqb (has HUGE_PAGE f) 1)
+  where
+    go : (t : Bool) → pick t largest 0 ≤ 2
+    go true = omega arith
+    go false = omega arith
+
+-- the call, by what its pages answer
+pub cont-refused : (p : List ℕ) (m : Mapping) (r : Refusal) → m .result ≡ Refused r → record { result = Refused r; pool = p } ≡ orNothing p m
+cont-refused p m r e = rw e
+
+pub cont-mapped : (p : List ℕ) (m : Mapping) (u : ℕ) → m .result ≡ Mapped u → m ≡ orNothing p m
+cont-mapped p m u e = rw e
