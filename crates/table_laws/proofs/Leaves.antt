@@ -7,14 +7,14 @@ use native.Mathlib.Nat.{div-add-mod', mul-mod-left}
 use lib.Dec.{lit<}
 use borrow.Author.Tests.{eqb-true, ltb-false}
 use Rattle.paging.specs.Level.{span}
-use Rattle.paging.specs.Format.{leaf, Entry, page}
+use Rattle.paging.specs.Format.{leaf, LeafReads, Entry, page}
 use Rattle.paging.proofs.Cases.{no-truth}
 use Rattle.paging.proofs.Levels.{page-of}
 use Rattle.paging.proofs.Formats.{IsLeaf, Is, is}
 use Rattle.common.specs.Page.{levelOf, sizeOf, aligned, isHuge}
 use Rattle.common.specs.declared.vm.PageSize.{PageSize}
 use Rattle.common.proofs.Pages.{size-span, size-pos, size-le, level-le}
-use Rattle.x86_64.specs.Entry.{addrOf, flagsOf, marksOf, leafBy, x86}
+use Rattle.x86_64.specs.Entry.{addrOf, flagsOf, marksOf, leafBy, granted, x86}
 use Rattle.x86_64.proofs.Words.{marks-lt}
 use Rattle.x86_64.proofs.Format.{lawful}
 use Rattle.x86_64.proofs.ReadBack.{huge-level}
@@ -35,12 +35,17 @@ pub record InPlace (s : PageSize) (p : ℕ) : Type 0 where
   pub aligned : p % sizeOf s ≡ 0
   pub below : p < 2 ^ 52
 
+-- a leaf of the size reads back as what was written
+pub leaf-reads : (s : PageSize) (p f a : ℕ) → InPlace s p → a < 4 → LeafReads x86 (levelOf s) (leafBy (isHuge s) p f a) p (granted f) a
+unfolding x86
+leaf-reads s p f a i b = rw (← huge-level s) (lawful .reads (levelOf s) p f a (level-le s) (rw (size-span s) at (i .aligned), i .below) b)
+
 pub leaf-of : (s : PageSize) (p f a : ℕ) → InPlace s p → a < 4 → LeafAt (levelOf s) (leafBy (isHuge s) p f a)
 unfolding x86
-leaf-of s p f a i b =
-    let g : (p % span (levelOf s) ≡ 0) × (p < 2 ^ 52) = (rw (size-span s) at (i .aligned), i .below) in
-    let e : leafBy (isHuge s) p f a ≡ x86 .leafWord (levelOf s) p f a = ap (λ (h : Bool). leafBy h p f a) (sym (huge-level s)) in
-    record { fits = page p f a (level-le s) g b e; kind = ap (x86 .kind (levelOf s)) e ∙ lawful .reads (levelOf s) p f a (level-le s) g b .kind }
+leaf-of s p f a i b = record {
+  fits = page p f a (level-le s) (rw (size-span s) at (i .aligned), i .below) b (ap (λ (h : Bool). leafBy h p f a) (sym (huge-level s)));
+  kind = leaf-reads s p f a i b .kind;
+}
 
 -- an address in place is written whole
 whole : (s : PageSize) (p : ℕ) → InPlace s p → addrOf p ≡ p
@@ -93,13 +98,16 @@ new-leaf s w L n f m = rights f (move n m)
     rights (flags.To g) K = leaf-of s (addrOf (newAddr w n)) (g .0) 0 (stands s (newAddr w n) K) (lit< tt)
 
 -- `map` writes a leaf of its size
+map-place : (s : PageSize) (pa : ℕ) → pa + sizeOf s ≤ 2 ^ 52 → InPlace s (pa - pa % sizeOf s)
+map-place s pa h = record {
+  aligned =
+      let e : pa - pa % sizeOf s ≡ pa / sizeOf s * sizeOf s = omega (arith, div-add-mod' pa (sizeOf s)) in
+      ap (λ (x : ℕ). x % sizeOf s) e ∙ mul-mod-left (pa / sizeOf s) (sizeOf s);
+  below = omega (arith, size-pos s);
+}
+
 pub map-leaf : (s : PageSize) (pa f : ℕ) → pa + sizeOf s ≤ 2 ^ 52 → LeafAt (levelOf s) (leafFor s pa f)
-map-leaf s pa f h = leaf-of s (addrOf (pa - pa % sizeOf s)) f 0 (rw (whole s (pa - pa % sizeOf s) i) i) (lit< tt)
-  where
-    i : InPlace s (pa - pa % sizeOf s)
-    i = record {
-      aligned =
-          let e : pa - pa % sizeOf s ≡ pa / sizeOf s * sizeOf s = omega (arith, div-add-mod' pa (sizeOf s)) in
-          ap (λ (x : ℕ). x % sizeOf s) e ∙ mul-mod-left (pa / sizeOf s) (sizeOf s);
-      below = omega (arith, size-pos s);
-    }
+map-leaf s pa f h = let i = map-place s pa h in leaf-of s (addrOf (pa - pa % sizeOf s)) f 0 (rw (whole s (pa - pa % sizeOf s) i) i) (lit< tt)
+
+pub map-reads : (s : PageSize) (pa f : ℕ) → pa + sizeOf s ≤ 2 ^ 52 → LeafReads x86 (levelOf s) (leafFor s pa f) (pa - pa % sizeOf s) (granted f) 0
+map-reads s pa f h = let i = map-place s pa h in rw (whole s (pa - pa % sizeOf s) i) (leaf-reads s (pa - pa % sizeOf s) f 0 i (lit< tt))

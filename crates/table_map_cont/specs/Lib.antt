@@ -1,2 +1,3 @@
 pub mod MapCont
 pub mod Count
+pub mod Laws
