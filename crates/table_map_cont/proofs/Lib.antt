@@ -4,3 +4,4 @@ pub mod Lowered
 pub mod Steps
 pub mod Counted
 pub mod Runs
+pub mod Ranges

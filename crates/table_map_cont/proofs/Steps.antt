@@ -1,8 +1,8 @@
 -- One page, and one page after another: what the count and the writing make of each.
 use Prim.Native.Nat.{ℕ, zero, suc, _+_, _-_, _*_, _/_, _%_, _≤_, _<_, min}
-use mathlib.Core.Path.{_≡_, refl, sym, ap, _∙_}
+use mathlib.Core.Path.{_≡_, refl, sym, ap, _∙_, subst}
 use mathlib.Core.List.{List}
-use mathlib.Core.Logic.{⊎-elim}
+use mathlib.Core.Logic.{_⊎_, inl, inr, ⊎-elim}
 use native.Mathlib.Omega.{arith}
 use lib.ListN.{length}
 use borrow.Author.Tests.{eq-eqb, ne-eqb, lt-ltb, le-ltb}
@@ -21,6 +21,10 @@ use Rattle.table_map.specs.declared.MapResult.the-variants.{Mapped, Refused}
 use Rattle.table_map_cont.specs.MapCont.{pageLevel, byResult, andThen, pages}
 use Rattle.table_map_cont.specs.Count.{begins, countPage, counted}
 
+-- no answer is both
+pub not-both : {A : Type 0} {u : ℕ} {r : Refusal} → Refused r ≡ Mapped u → A
+not-both e = let z : _≡_ {A = ℕ} 0 1 = cc in absurd (omega arith)
+
 -- a page's answer, by what the walk of its address finds in the table as it stands
 module _ (p : List ℕ) (b used c v t : ℕ) where
   pub page-taken : (e : LeafEntry) → found p b v ≡ Leaf e → countPage p b used c v t ≡ Refused AlreadyMapped
@@ -37,31 +41,45 @@ module _ (p : List ℕ) (b used c v t : ℕ) where
       pub page-done : min (o .level) c - t ≤ length p / 512 - used → countPage p b used c v t ≡ Mapped (used + (min (o .level) c - t))
       page-done g = rw (q, le-ltb (o .level) t h, le-ltb (length p / 512 - used) (min (o .level) c - t) g)
 
-  -- as many frames as there are
-  pub page-few : (u : ℕ) → countPage p b used c v t ≡ Mapped u → used ≤ length p / 512 → u ≤ length p / 512
-  page-few u e h = go (found p b v) refl
+  -- one of these it is
+  data Counts : Type 0 where
+    refuses : (r : Refusal) → countPage p b used c v t ≡ Refused r → (r ≡ AlreadyMapped) ⊎ (r ≡ NoFrames) → Counts
+    takes : (n : ℕ) → countPage p b used c v t ≡ Mapped (used + n) → n ≤ length p / 512 - used → Counts
+
+  counts : Counts
+  counts = go (found p b v) refl
     where
-      go : (r : Walk) → found p b v ≡ r → u ≤ length p / 512
-      go (Leaf l) q =
-          let z : Refused AlreadyMapped ≡ Mapped u = sym (page-taken l q) ∙ e in
-          let y : _≡_ {A = ℕ} 0 1 = cc in
-          absurd (omega arith)
+      go : (r : Walk) → found p b v ≡ r → Counts
+      go (Leaf l) q = refuses AlreadyMapped (page-taken l q) (inl refl)
       go (Open o) q = ⊎-elim
-          (λ g.
-          let z : Refused AlreadyMapped ≡ Mapped u = sym (page-over o q g) ∙ e in
-          let y : _≡_ {A = ℕ} 0 1 = cc in
-          absurd (omega arith))
+          (λ g. refuses AlreadyMapped (page-over o q g) (inl refl))
           (λ g. ⊎-elim
-          (λ k.
-          let z : Refused NoFrames ≡ Mapped u = sym (page-short o q g k) ∙ e in
-          let y : _≡_ {A = ℕ} 0 1 = cc in
-          absurd (omega arith))
-          (λ k.
-          let z : Mapped (used + (min (o .level) c - t)) ≡ Mapped u = sym (page-done o q g k) ∙ e in
-          let y : used + (min (o .level) c - t) ≡ u = cc in
-          omega arith)
+          (λ k. refuses NoFrames (page-short o q g k) (inr refl))
+          (λ k. takes (min (o .level) c - t) (page-done o q g k) k)
           (below? (length p / 512 - used) (min (o .level) c - t)))
           (below? (o .level) t)
+
+  -- no more frames than there are
+  pub page-few : (u : ℕ) → countPage p b used c v t ≡ Mapped u → used ≤ length p / 512 → u ≤ length p / 512
+  page-few u e h = go counts
+    where
+      go : Counts → u ≤ length p / 512
+      go (refuses r q o) = not-both (sym q ∙ e)
+      go (takes n q k) =
+          let z : Mapped (used + n) ≡ Mapped u = sym q ∙ e in
+          let y : used + n ≡ u = cc in
+          omega arith
+
+  -- 7 or 8
+  pub page-refuses : (r : Refusal) → countPage p b used c v t ≡ Refused r → (r ≡ AlreadyMapped) ⊎ (r ≡ NoFrames)
+  page-refuses r e = go counts
+    where
+      go : Counts → (r ≡ AlreadyMapped) ⊎ (r ≡ NoFrames)
+      go (refuses y q o) =
+          let z : Refused y ≡ Refused r = sym q ∙ e in
+          let w : y ≡ r = cc in
+          subst (λ (x : Refusal). (x ≡ AlreadyMapped) ⊎ (x ≡ NoFrames)) w o
+      go (takes n q k) = not-both (sym e ∙ q)
 
 -- the count of a range, by what it makes of the first page, of level t
 module _ (p : List ℕ) (b used c v pa n top : ℕ) where
