@@ -32,11 +32,11 @@ use Rattle.page_table.specs.Calls.{UnmapFits, UpdateFits, MapFits, inRul
 use Rattle.page_table.specs.Laws.{Laws}
 
 -- the two ranges of the rule
-data Ruled (v : ℕ) : Type 0 where
+pub data Ruled (v : ℕ) : Type 0 where
   lower : v < 2 ^ 47 → Ruled v
   upper : 0xffff800000000000 ≤ v → v < 0xffffffffc0000000 → Ruled v
 
-ruled : (v : ℕ) → inRule v ≡ true → Ruled v
+pub ruled : (v : ℕ) → inRule v ≡ true → Ruled v
 ruled v = go (ltb v (2 ^ 47)) (ltb v 0xffff800000000000) refl refl
   where
     go : (a b : Bool) → ltb v (2 ^ 47) ≡ a → ltb v 0xffff800000000000 ≡ b → pick a true (pick b false (ltb v 0xffffffffc0000000)) ≡ true → Ruled v
@@ -44,7 +44,7 @@ ruled v = go (ltb v (2 ^ 47)) (ltb v 0xffff800000000000) refl refl
     go false true e f h = no-truth h
     go false false e f h = upper (ltb-false v 0xffff800000000000 f) (ltb-true v 0xffffffffc0000000 h)
 
-in-rule : (v : ℕ) → Ruled v → inRule v ≡ true
+pub in-rule : (v : ℕ) → Ruled v → inRule v ≡ true
 in-rule v (lower h) = rw (lt-ltb v (2 ^ 47) h)
 in-rule v (upper h k) = rw (le-ltb v (2 ^ 47) (omega arith), le-ltb v 0xffff800000000000 h, lt-ltb v 0xffffffffc0000000 k)
 

@@ -1,0 +1,26 @@
+-- The range calls, whole: every refusal in document 01's order ("13, .. unknown flag bits (1), 15, then the added argument tests for table calls (1), then
+-- the Rust's own order"), then the call on a well-formed table; last, the promises, where 13 goes by whether the pool is Good.
+use Prim.Native.Nat.{ℕ, _/_}
+use mathlib.Core.List.{List}
+use Rattle.paging.specs.Choice.{pick, Answered}
+use Rattle.common.specs.Flags.{knownPage}
+use Rattle.form.specs.Form.{Good}
+use Rattle.refusal.specs.declared.Refusal.the-variants.{InvalidArgs, BadTable, BadAddress}
+use Rattle.table_map.specs.Map.{Mapping}
+use Rattle.table_map_cont.specs.MapCont.{mapCont}
+use Rattle.page_table.specs.Calls.{mapRefused}
+use Rattle.generic_page_table.specs.Rules.{rangeInRule, pageAligned, physicalFits}
+
+abbrev pub mapContCall : List ℕ → ℕ → ℕ → ℕ → ℕ → ℕ → ℕ → Mapping
+mapContCall p base used v n pa f =
+    pick (knownPage f)
+    (pick (rangeInRule v n)
+    (pick (pageAligned v n) (pick (physicalFits pa n) (mapCont p (base / 4096) used v n pa f) (mapRefused p InvalidArgs)) (mapRefused p InvalidArgs))
+    (mapRefused p BadAddress))
+    (mapRefused p InvalidArgs)
+
+-- The promises: an outcome fits where the pool is good and it is the call's, or the pool is not and it is 13. Its number and value are those of a single
+-- map's (page_table/specs/Replies, `mapReply`).
+module _ (p : List ℕ) (base used : ℕ) where
+  abbrev pub MapContFits : ℕ → ℕ → ℕ → ℕ → Mapping → Type 0
+  MapContFits v n pa f o = Answered (Good p base used) (mapRefused p BadTable) (mapContCall p base used v n pa f) o
