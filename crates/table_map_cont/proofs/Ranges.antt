@@ -223,12 +223,18 @@ module _ (p : List ℕ) (m : Mapping) where
   refused-pool : (r : Refusal) → m .result ≡ Refused r → orNothing p m .pool ≡ p
   refused-pool r e = rw e
 
+-- a refused call changes no word, whatever the pool is
+pub cont-keeps : (p : List ℕ) (b used v n pa f : ℕ) (r : Refusal) → mapCont p b used v n pa f .result ≡ Refused r → mapCont p b used v n pa f .pool ≡ p
+cont-keeps p b used v n pa f r e =
+    let m : Mapping = pages (n / 4096) p b used v pa n (topLevel f) f in
+    refused-pool p m r (sym (same-result p m) ∙ e)
+
 pub ranges : (p : List ℕ) (base used v n pa f : ℕ) → Good p base used → Range v n pa → Ranges p base used v n pa f
 ranges p base used v n pa f G R = record {
   maps = λ used′ e.
       subst (λ (q : List ℕ). MapsRange p q base used used′ v n pa f) (sym (mapped-pool p m used′ (sym (same-result p m) ∙ e)))
       (range-maps base (topLevel f) f (top-low f) (n / 4096) p used v pa n used′ G R (omega (arith, R .size)) (sym (same-result p m) ∙ e));
-  keeps = λ r e. refused-pool p m r (sym (same-result p m) ∙ e);
+  keeps = cont-keeps p (base / 4096) used v n pa f;
   refusals = λ r e. range-refuses p (base / 4096) (topLevel f) (n / 4096) used 3 v pa n r (sym counting ∙ e);
   by-count = counting;
   empty = λ z. whole z;
