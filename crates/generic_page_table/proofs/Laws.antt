@@ -8,7 +8,7 @@ use Rattle.paging.proofs.Cases as cases
 use Rattle.common.specs.Flags.{knownPage}
 use Rattle.form.specs.Form.{Good}
 use Rattle.refusal.specs.declared.Refusal.{Refusal}
-use Rattle.refusal.specs.declared.Refusal.the-variants.{InvalidArgs, BadTable, BadAddress}
+use Rattle.refusal.specs.declared.Refusal.the-variants.{InvalidArgs, BadAddress}
 use Rattle.table_map.specs.Map.{Mapping}
 use Rattle.table_map.specs.declared.MapResult.the-variants.{Mapped, Refused}
 use Rattle.table_map_cont.specs.MapCont.{mapCont}

@@ -1,19 +1,19 @@
 -- The count is right: on the table as it stands it answers what mapping the pages one after the other answers.
 use Prim.Native.Nat.{ℕ, zero, suc, _+_, _-_, _*_, _/_, _%_, _^_, _≤_, _<_, min}
 use mathlib.Core.Path.{_≡_, refl, sym, ap, _∙_, subst}
-use mathlib.Core.Logic.{_⊎_, inl, inr, ⊎-elim}
+use mathlib.Core.Logic.{_⊎_, ⊎-elim}
 use mathlib.Core.List.{List}
 use native.Mathlib.Omega.{arith}
 use lib.ListN.{length, length-set}
 use Rattle.paging.specs.Level.{span, Within}
 use Rattle.paging.specs.Format.{nothing, leaf}
-use Rattle.paging.specs.Table.{View, view, shows}
+use Rattle.paging.specs.Table.{View, view}
 use Rattle.paging.proofs.Cases.{same?, below?}
 use Rattle.paging.proofs.Levels.{span-pos}
 use Rattle.common.specs.Page.{levelOf, sizeOf}
 use Rattle.x86_64.specs.Entry.{x86}
 use Rattle.x86_64.proofs.Format.{lawful}
-use Rattle.pool.specs.Pool.{word, memOf}
+use Rattle.pool.specs.Pool.{word}
 use Rattle.form.specs.Form.{Good}
 use Rattle.refusal.specs.declared.Refusal.{Refusal}
 use Rattle.refusal.specs.declared.Refusal.the-variants.{AlreadyMapped, NoFrames}
@@ -26,12 +26,12 @@ use Rattle.walk.proofs.Found.{over, unused}
 use Rattle.table_map.specs.Map.{grown, under, filled, leafFor, mapped, Mapping}
 use Rattle.table_map.specs.declared.MapResult.the-variants.{Mapped, Refused}
 use Rattle.table_map.proofs.Fills.{grown-length, table-there, short, done}
-use Rattle.table_laws.specs.Effects.{showsIn, translatesIn}
+use Rattle.table_laws.specs.Effects.{showsIn}
 use Rattle.table_laws.proofs.Effects.{size-level, size-bytes, shown-at, effects}
 use Rattle.table_map_cont.specs.MapCont.{Range, pageLevel, pages}
 use Rattle.table_map_cont.specs.Count.{begins, countPage, counted}
-use Rattle.table_map_cont.proofs.Heights.{Fits, page-fits, begins-least}
-use Rattle.table_map_cont.proofs.Pages.{span-page, Part, part-of, part-page, part-near, part-begins, part-aligned, canonical, one-half, off-block, range-on}
+use Rattle.table_map_cont.proofs.Heights.{Fits, page-fits}
+use Rattle.table_map_cont.proofs.Pages.{span-page, Part, part-of, part-page, part-near, part-begins, part-aligned, canonical, one-half, range-on}
 use Rattle.table_map_cont.proofs.Lowered.{lowered, lowered-used, lowered-twice, lowered-top, lowers}
 use Rattle.table_map_cont.proofs.Steps.{page-taken, page-over, page-short, page-done, counted-end, counted-fail, counted-next, pages-end, pages-fail, pages-next}
 

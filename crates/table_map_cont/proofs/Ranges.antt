@@ -4,11 +4,10 @@ use mathlib.Core.Path.{_≡_, refl, sym, ap, _∙_, subst}
 use mathlib.Core.Logic.{_⊎_, inl, inr, ⊎-elim}
 use mathlib.Core.List.{List}
 use native.Mathlib.Omega.{arith}
-use native.Mathlib.Nat.{div-add-mod'}
 use lib.ListN.{length}
-use Rattle.paging.specs.Level.{span, Canonical}
+use Rattle.paging.specs.Level.{span}
 use Rattle.paging.specs.Format.{LeafReads}
-use Rattle.paging.specs.Table.{view, Translation, to, translated, translates}
+use Rattle.paging.specs.Table.{view, to, translated, translates}
 use Rattle.paging.proofs.Cases.{same?, below?}
 use Rattle.paging.proofs.Levels.{span-pos, page-of}
 use Rattle.common.specs.Page.{levelOf, sizeOf}
@@ -21,7 +20,6 @@ use Rattle.refusal.specs.declared.Refusal.the-variants.{AlreadyMapped, NoFrames
 use Rattle.walk.specs.Walk.{sizeAt, found}
 use Rattle.walk.specs.declared.Walk.{Walk}
 use Rattle.walk.specs.declared.Walk.the-variants.{Leaf, Open}
-use Rattle.walk.specs.declared.OpenEntry.{OpenEntry}
 use Rattle.walk.proofs.Found.{unused, open-in}
 use Rattle.table_map.specs.Map.{leafFor, mapped, Mapping}
 use Rattle.table_map.specs.declared.MapResult.{MapResult}

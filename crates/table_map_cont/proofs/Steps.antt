@@ -1,5 +1,5 @@
 -- One page, and one page after another: what the count and the writing make of each.
-use Prim.Native.Nat.{ℕ, zero, suc, _+_, _-_, _*_, _/_, _%_, _≤_, _<_, min}
+use Prim.Native.Nat.{ℕ, zero, suc, _+_, _-_, _/_, _≤_, _<_, min}
 use mathlib.Core.Path.{_≡_, refl, sym, ap, _∙_, subst}
 use mathlib.Core.List.{List}
 use mathlib.Core.Logic.{_⊎_, inl, inr, ⊎-elim}
@@ -16,9 +16,8 @@ use Rattle.walk.specs.declared.Walk.the-variants.{Leaf, Open}
 use Rattle.walk.specs.declared.LeafEntry.{LeafEntry}
 use Rattle.walk.specs.declared.OpenEntry.{OpenEntry}
 use Rattle.table_map.specs.Map.{mapped, Mapping}
-use Rattle.table_map.specs.declared.MapResult.{MapResult}
 use Rattle.table_map.specs.declared.MapResult.the-variants.{Mapped, Refused}
-use Rattle.table_map_cont.specs.MapCont.{pageLevel, byResult, andThen, pages}
+use Rattle.table_map_cont.specs.MapCont.{pageLevel, andThen, pages}
 use Rattle.table_map_cont.specs.Count.{begins, countPage, counted}
 
 -- no answer is both

@@ -115,32 +115,32 @@ fn count(
     pool: &[u64],
     base: u64,
     used: usize,
-    vaddr: VirtAddr,
+    from: VirtAddr,
     size: u64,
-    paddr: PhysAddr,
+    to: PhysAddr,
     top: usize,
 ) -> MapResult
     requires { ⌜ Good (now pool) base used ⌝ }
-    requires { ⌜ Range vaddr size paddr × (top ≤ 2) ⌝ }
-    ensures { λ r. ⌜ r ≡ counted (size / 4096) (now (pool .entry)) (base / 4096) used 3 vaddr paddr size top ⌝ }
+    requires { ⌜ Range from size to × (top ≤ 2) ⌝ }
+    ensures { λ r. ⌜ r ≡ counted (size / 4096) (now (pool .entry)) (base / 4096) used 3 from to size top ⌝ }
 {
     let mut taken = used;
     let mut made: usize = 3;
-    let mut v = vaddr;
-    let mut p = paddr;
+    let mut vaddr = from;
+    let mut paddr = to;
     let mut remains = size;
     while 0 < remains {
-        let level = page_level(top, v, p, remains);
-        let answer = count_page(pool, base, used, taken, made, v, level);
+        let level = page_level(top, vaddr, paddr, remains);
+        let answer = count_page(pool, base, used, taken, made, vaddr, level);
         let MapResult::Mapped(next) = answer else {
             return answer;
         };
         let step = walk::size_at(level).size();
         taken = next;
-        v += step;
-        p += step;
+        vaddr += step;
+        paddr += step;
         remains -= step;
-        made = begins_at(v);
+        made = begins_at(vaddr);
     }
     MapResult::Mapped(taken)
 }
@@ -150,31 +150,31 @@ fn map_pages(
     pool: &mut [u64],
     base: u64,
     used: usize,
-    vaddr: VirtAddr,
+    from: VirtAddr,
     size: u64,
-    paddr: PhysAddr,
+    to: PhysAddr,
     flags: MMUFlags,
     top: usize,
 ) -> MapResult
     requires { ⌜ Good (now pool) base used ⌝ }
-    requires { ⌜ Range vaddr size paddr × (top ≤ 2) ⌝ }
-    ensures { λ r. ⌜ record { result = r; pool = now (pool .exit) } ≡ pages (size / 4096) (now (pool .entry)) (base / 4096) used vaddr paddr size top (flags .0) ⌝ }
+    requires { ⌜ Range from size to × (top ≤ 2) ⌝ }
+    ensures { λ r. ⌜ record { result = r; pool = now (pool .exit) } ≡ pages (size / 4096) (now (pool .entry)) (base / 4096) used from to size top (flags .0) ⌝ }
 {
     let mut taken = used;
-    let mut v = vaddr;
-    let mut p = paddr;
+    let mut vaddr = from;
+    let mut paddr = to;
     let mut remains = size;
     while 0 < remains {
-        let level = page_level(top, v, p, remains);
+        let level = page_level(top, vaddr, paddr, remains);
         let page_size = walk::size_at(level);
-        let answer = table_map::map(pool, base, taken, v, p, page_size, flags);
+        let answer = table_map::map(pool, base, taken, vaddr, paddr, page_size, flags);
         let MapResult::Mapped(next) = answer else {
             return answer;
         };
         let step = page_size.size();
         taken = next;
-        v += step;
-        p += step;
+        vaddr += step;
+        paddr += step;
         remains -= step;
     }
     MapResult::Mapped(taken)

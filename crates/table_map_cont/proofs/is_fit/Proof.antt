@@ -1,14 +1,13 @@
 -- `is_fit`: the length, then the alignment of both addresses.
-use Prim.Native.Nat.{ℕ, _-_, _%_, _≤_, _<_}
-use mathlib.Core.Path.{_≡_, sym, ap, _∙_, subst}
-use mathlib.Core.Bool.{Bool, true, false}
+use Prim.Native.Nat.{ℕ, _-_, _%_}
+use mathlib.Core.Path.{_≡_, sym, ap, _∙_}
+use mathlib.Core.Bool.{true, false}
 use native.Mathlib.Omega.{arith}
 use lib.Dec.{eqb, leb}
 use borrow.Author.Needs.{needs}
 use borrow.Author.Tests.{not-true, not-false, le-leb, lt-leb}
 use Rattle.paging.specs.Level.{span}
-use Rattle.common.specs.Page.{sizeOf, aligned}
-use Rattle.common.specs.declared.vm.PageSize.{PageSize}
+use Rattle.common.specs.Page.{sizeOf}
 use Rattle.table_laws.proofs.Effects.{size-bytes}
 use Rattle.table_map_cont.proofs.is_fit.Statement.{statement}
 use Rattle.table_map_cont.proofs.is_fit.Tie as tie

@@ -4,7 +4,6 @@ use mathlib.Core.Path.{_≡_, sym, ap, _∙_}
 use native.Mathlib.Omega.{arith}
 use denote.Ref.{now}
 use borrow.Author.Needs.{needs}
-use Rattle.table_map.specs.Map.{Mapping}
 use Rattle.table_map.specs.declared.MapResult.{MapResult}
 use Rattle.table_map_cont.specs.MapCont.{topLevel, pages}
 use Rattle.table_map_cont.proofs.Counted.{by-count}

@@ -1,7 +1,6 @@
 -- `map_pages`: each turn maps one page.
-use Prim.Native.Nat.{ℕ, _+_, _-_, _/_, _^_, _≤_, _<_}
-use mathlib.Core.Path.{_≡_, refl, sym, ap, _∙_}
-use mathlib.Core.List.{List}
+use Prim.Native.Nat.{_-_, _/_, _≤_}
+use mathlib.Core.Path.{_≡_, refl, ap, _∙_}
 use native.Mathlib.Omega.{arith}
 use lib.ListN.{length}
 use denote.Ref.{now}
@@ -20,21 +19,21 @@ use Rattle.table_map_cont.proofs.map_pages.Statement.{statement}
 use Rattle.table_map_cont.proofs.map_pages.Tie as tie
 
 abbrev Inv-loop : tie.InvT-loop
-Inv-loop pool₀ base used vaddr size paddr flags top taken₀ v₀ p₀ remains₀ pool taken v p remains =
-    (top ≤ 2) × (length pool ≡ length pool₀) × Writing base top (flags .0) (pages (size / 4096) pool₀ (base / 4096) used vaddr paddr size top (flags .0)) pool taken v p remains
+Inv-loop pool₀ base used from size to flags top taken₀ vaddr₀ paddr₀ remains₀ pool taken vaddr paddr remains =
+    (top ≤ 2) × (length pool ≡ length pool₀) × Writing base top (flags .0) (pages (size / 4096) pool₀ (base / 4096) used from to size top (flags .0)) pool taken vaddr paddr remains
 
 abbrev μ-loop : tie.MeasureT-loop
-μ-loop pool₀ base used vaddr size paddr flags top taken₀ v₀ p₀ remains₀ pool taken v p remains = remains
+μ-loop pool₀ base used from size to flags top taken₀ vaddr₀ paddr₀ remains₀ pool taken vaddr paddr remains = remains
 
 -- the page that was chosen, what mapping it came to, and its bytes
 chosen : (k : tie.After-page-level Inv-loop μ-loop)
     → let h = k .before .before in
     let x = h .loop in
-    Fits (h .before .before .args .top) (x .v) (x .p) (x .remains) (k .page-level .result)
+    Fits (h .before .before .args .top) (x .vaddr) (x .paddr) (x .remains) (k .page-level .result)
 chosen k =
     let h = k .before .before in
     let x = h .loop in
-    fits-now (h .before .before .args .top) (x .v) (x .p) (x .remains) (k .page-level .result) (x .inv .2 .range) (k .before .loop-test .taken) (k .page-level .ensures)
+    fits-now (h .before .before .args .top) (x .vaddr) (x .paddr) (x .remains) (k .page-level .result) (x .inv .2 .range) (k .before .loop-test .taken) (k .page-level .ensures)
 
 came : (m : tie.After-map Inv-loop μ-loop) → Mapping
 came m = record { result = m .map .result; pool = m .map .last .0 }
@@ -44,14 +43,14 @@ mapped-page : (m : tie.After-map Inv-loop μ-loop)
     let h = k .before .before in
     let a = h .before .before .args in
     let x = h .loop in
-    came m ≡ mapped (x .pool) (a .base / 4096) (x .taken) (x .v) (x .p) (sizeAt (k .page-level .result)) (a .flags .0)
+    came m ≡ mapped (x .pool) (a .base / 4096) (x .taken) (x .vaddr) (x .paddr) (sizeAt (k .page-level .result)) (a .flags .0)
 unfolding came
 mapped-page m =
     let k = m .before .before .before in
     let h = k .before .before in
     let a = h .before .before .args in
     let x = h .loop in
-    m .map .ensures ∙ ap (λ (s : PageSize). mapped (x .pool) (a .base / 4096) (x .taken) (x .v) (x .p) s (a .flags .0)) (m .before .before .size-at .ensures)
+    m .map .ensures ∙ ap (λ (s : PageSize). mapped (x .pool) (a .base / 4096) (x .taken) (x .vaddr) (x .paddr) s (a .flags .0)) (m .before .before .size-at .ensures)
 
 bytes : (s : tie.After-size Inv-loop μ-loop) → s .size .result ≡ span (s .before .before .before .before .before .before .before .before .before .page-level .result)
 bytes s =
@@ -62,7 +61,7 @@ loop-holds : tie.Need-loop-holds Inv-loop μ-loop
 loop-holds c =
     let s = c .before in
     let a = s .args in
-    (s .pre .1 .1, refl, write-start (now (a .pool)) (a .base) (a .top) (a .flags .0) (a .used) (a .vaddr) (a .paddr) (a .size) (s .pre .1 .0) (s .pre .0))
+    (s .pre .1 .1, refl, write-start (now (a .pool)) (a .base) (a .top) (a .flags .0) (a .used) (a .from) (a .to) (a .size) (s .pre .1 .0) (s .pre .0))
 
 page-level-requires : tie.Need-page-level-requires Inv-loop μ-loop
 page-level-requires c κs = c .before .loop .inv .0
@@ -90,20 +89,20 @@ returns c =
     let h = k .before .before in
     let a = h .before .before .args in
     let x = h .loop in
-    write-fail (a .base) (a .top) (a .flags .0) _ (x .pool) (x .taken) (x .v) (x .p) (x .remains) (x .inv .2) (x .inv .0) (k .before .loop-test .taken) (k .page-level .result) (k .page-level .ensures)
+    write-fail (a .base) (a .top) (a .flags .0) _ (x .pool) (x .taken) (x .vaddr) (x .paddr) (x .remains) (x .inv .2) (x .inv .0) (k .before .loop-test .taken) (k .page-level .result) (k .page-level .ensures)
     (came m) (mapped-page m) (c .enum-told .given .0 .0) (c .enum-told .given .1)
 
 size-requires : tie.Need-size-requires Inv-loop μ-loop
 size-requires c κs = search needs
 
-add-v : tie.Need-add-v Inv-loop μ-loop
-add-v c =
+add-vaddr : tie.Need-add-vaddr Inv-loop μ-loop
+add-vaddr c =
     let k = c .before .before .before .before .before .before .before .before .before in
     let x = k .before .before .loop in
-    omega (arith, range-below (x .v) (x .remains) (x .p) (x .inv .2 .range), chosen k .room, bytes c)
+    omega (arith, range-below (x .vaddr) (x .remains) (x .paddr) (x .inv .2 .range), chosen k .room, bytes c)
 
-add-p : tie.Need-add-p Inv-loop μ-loop
-add-p c = let k = c .before .before .before .before .before .before .before .before .before in omega (arith, k .before .before .loop .inv .2 .range .physical, chosen k .room, bytes c)
+add-paddr : tie.Need-add-paddr Inv-loop μ-loop
+add-paddr c = let k = c .before .before .before .before .before .before .before .before .before in omega (arith, k .before .before .loop .inv .2 .range .physical, chosen k .room, bytes c)
 
 sub-remains : tie.Need-sub-remains Inv-loop μ-loop
 sub-remains c = let k = c .before .before .before .before .before .before .before .before .before in omega (arith, chosen k .room, bytes c)
@@ -122,7 +121,7 @@ loop-again c =
     let x = h .loop in (
       x .inv .0,
       omega (arith, x .inv .1),
-      rw (bytes c) (write-next (a .base) (a .top) (a .flags .0) _ (x .pool) (x .taken) (x .v) (x .p) (x .remains) (x .inv .2) (x .inv .0) (k .before .loop-test .taken) (k .page-level .result) (k .page-level .ensures)
+      rw (bytes c) (write-next (a .base) (a .top) (a .flags .0) _ (x .pool) (x .taken) (x .vaddr) (x .paddr) (x .remains) (x .inv .2) (x .inv .0) (k .before .loop-test .taken) (k .page-level .result) (k .page-level .ensures)
           (came m) (mapped-page m) (n .answer .given .0 .0) (n .answer .given .1)),
     )
 
@@ -134,7 +133,7 @@ returns-2 c =
     let h = c .before in
     let a = h .before .before .args in
     let x = h .loop in
-    write-end (a .base) (a .top) (a .flags .0) _ (x .pool) (x .taken) (x .v) (x .p) (x .remains) (x .inv .2) (omega arith)
+    write-end (a .base) (a .top) (a .flags .0) _ (x .pool) (x .taken) (x .vaddr) (x .paddr) (x .remains) (x .inv .2) (omega arith)
 
 pub map-pages-spec : {M : Type 1} → statement M
 map-pages-spec =
@@ -151,8 +150,8 @@ map-pages-spec =
     same-length
     returns
     size-requires
-    add-v
-    add-p
+    add-vaddr
+    add-paddr
     sub-remains
     loop-less
     loop-again

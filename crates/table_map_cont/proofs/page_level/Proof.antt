@@ -1,5 +1,5 @@
 -- `page_level`: the levels from the top down.
-use Prim.Native.Nat.{ℕ, _-_, _≤_}
+use Prim.Native.Nat.{_-_, _≤_}
 use mathlib.Core.Path.{_≡_, refl, sym, _∙_}
 use native.Mathlib.Omega.{arith}
 use Rattle.table_map_cont.specs.MapCont.{fits, pageLevel}

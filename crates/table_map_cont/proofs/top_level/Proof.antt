@@ -1,5 +1,4 @@
 -- `top_level`: by the bit of HUGE_PAGE.
-use Prim.Native.Nat.{_/_, _%_}
 use borrow.Author.Needs.{needs}
 use borrow.Author.Tests.{eq-eqb, ne-eqb}
 use Rattle.common.specs.Flags.{HUGE_PAGE, has}
