@@ -1,25 +1,41 @@
 -- What is proved of the range calls as a whole.
-use Prim.Native.Nat.{ℕ, _/_}
+use Prim.Native.Nat.{ℕ, _+_, _/_, _≤_, _<_}
 use mathlib.Core.Path.{_≡_, refl, sym, ap, _∙_, subst}
 use mathlib.Core.Bool.{Bool, true, false}
+use mathlib.Core.Logic.{⊎-elim}
 use mathlib.Core.List.{List}
+use native.Mathlib.Omega.{arith}
 use Rattle.paging.specs.Choice.{pick, refused, taken}
 use Rattle.paging.proofs.Cases as cases
+use Rattle.paging.proofs.Cases.{below?}
 use Rattle.common.specs.Flags.{knownPage}
 use Rattle.form.specs.Form.{Good}
 use Rattle.refusal.specs.declared.Refusal.{Refusal}
-use Rattle.refusal.specs.declared.Refusal.the-variants.{InvalidArgs, BadAddress}
+use Rattle.refusal.specs.declared.Refusal.the-variants.{InvalidArgs, BadAddress, NoFrames}
 use Rattle.table_map.specs.Map.{Mapping}
 use Rattle.table_map.specs.declared.MapResult.the-variants.{Mapped, Refused}
 use Rattle.table_map_cont.specs.MapCont.{mapCont}
 use Rattle.table_map_cont.specs.Laws.{MapsRange}
 use Rattle.table_map_cont.proofs.Steps.{not-both}
 use Rattle.table_map_cont.proofs.Ranges.{ranges, cont-keeps}
+use Rattle.table_unmap_cont.specs.UnmapCont.{unmapCont, ContUnmapping}
+use Rattle.table_unmap_cont.specs.Demand.{framesFor, free, CutOut, Demand}
+use Rattle.table_unmap_cont.specs.declared.UnmapContResult.the-variants as cut
+use Rattle.table_unmap_cont.proofs.Calls as cont
+use Rattle.table_unmap_cont.proofs.Demand.{demands}
 use Rattle.page_table.specs.Calls.{mapRefused}
 use Rattle.generic_page_table.specs.Rules.{rangeInRule, pageAligned, physicalFits}
-use Rattle.generic_page_table.specs.Calls.{mapContCall, MapContFits}
+use Rattle.generic_page_table.specs.Calls.{mapContCall, MapContFits, unmapContRefused, unmapContCall, UnmapContFits}
 use Rattle.generic_page_table.specs.Laws.{Laws}
-use Rattle.generic_page_table.proofs.Rules.{halves, start, whole, only, range}
+use Rattle.generic_page_table.proofs.Rules.{halves, start, whole, only, pages, range}
+use Rattle.generic_page_table.proofs.Calls.{cut-core}
+
+-- a refusal is no success, and a success tells the frames taken
+no-cut : {r : Refusal} {t : ℕ} → cut.Refused r ≡ cut.Unmapped t → ⊥
+no-cut e = let z : _≡_ {A = ℕ} 0 1 = cc in omega arith
+
+same-taken : {t u : ℕ} → cut.Unmapped t ≡ cut.Unmapped u → t ≡ u
+same-taken e = cc
 
 module _ (p : List ℕ) (base used v n : ℕ) where
   -- the call, by the answers of its tests
@@ -57,11 +73,63 @@ module _ (p : List ℕ) (base used v n : ℕ) where
   map-cont-means pa f used′ o (taken g e) h =
       subst (λ (q : List ℕ). MapsRange p q base used used′ v n pa f) (sym (ap (λ (u : Mapping). u .pool) e)) (call-means pa f used′ g (sym (ap (λ (u : Mapping). u .result) e) ∙ h))
 
+  -- unmap_cont, by the answers of its tests
+  abbrev cut-tested : Bool → Bool → ContUnmapping
+  cut-tested r a = pick r (pick a (unmapCont p (base / 4096) used v n) (unmapContRefused p InvalidArgs)) (unmapContRefused p BadAddress)
+
+  unmap-cont-keeps : (r : Refusal) (o : ContUnmapping) → UnmapContFits p base used v n o → o .result ≡ cut.Refused r → o .pool ≡ p
+  unmap-cont-keeps r o (refused m e) h = ap (λ (u : ContUnmapping). u .pool) e
+  unmap-cont-keeps r o (taken g e) h = ap (λ (u : ContUnmapping). u .pool) e ∙ go (rangeInRule v n) (pageAligned v n) (sym (ap (λ (u : ContUnmapping). u .result) e) ∙ h)
+    where
+      go : (x a : Bool) → cut-tested x a .result ≡ cut.Refused r → cut-tested x a .pool ≡ p
+      go true true q = cont.keeps p (base / 4096) used v n r q
+      go true false q = refl
+      go false a q = refl
+
+  module _ (o : ContUnmapping) (fits : UnmapContFits p base used v n o) (G : Good p base used) (r : rangeInRule v n ≡ true) (a : pageAligned v n ≡ true) where
+    outcome : o ≡ unmapCont p (base / 4096) used v n
+    outcome = cases.only fits (taken G (cut-core p base used v n r a))
+
+    D : Demand p base used v n
+    D = let q = pages v n a in demands .holds p base used v n G (q .0) (q .1) (halves v n r)
+
+    unmap-cont-short : free p used < framesFor p base v (v + n) → o ≡ unmapContRefused p NoFrames
+    unmap-cont-short l = outcome ∙ D .refused l
+
+    unmap-cont-done : framesFor p base v (v + n) ≤ free p used → o .result ≡ cut.Unmapped (framesFor p base v (v + n))
+    unmap-cont-done l = ap (λ (u : ContUnmapping). u .result) outcome ∙ D .carried l .0
+
+    cut-means : (t : ℕ) → o .result ≡ cut.Unmapped t → (t ≡ framesFor p base v (v + n)) × CutOut p (o .pool) base used (used + t) v (v + n)
+    cut-means t h = ⊎-elim
+        (λ (l : free p used < framesFor p base v (v + n)). absurd (no-cut (sym (ap (λ (u : ContUnmapping). u .result) (unmap-cont-short l)) ∙ h)))
+        (λ l.
+        let q : t ≡ framesFor p base v (v + n) = same-taken (sym h ∙ unmap-cont-done l) in
+        (q, subst (λ (w : List ℕ). CutOut p w base used (used + t) v (v + n)) (sym (ap (λ (u : ContUnmapping). u .pool) outcome)) (rw q (D .carried l .1))))
+        (below? (free p used) (framesFor p base v (v + n)))
+
+  unmap-cont-means : (t : ℕ) (o : ContUnmapping) → UnmapContFits p base used v n o → o .result ≡ cut.Unmapped t
+      → (t ≡ framesFor p base v (v + n)) × CutOut p (o .pool) base used (used + t) v (v + n)
+  unmap-cont-means t o (refused m e) h = absurd (no-cut (sym (ap (λ (u : ContUnmapping). u .result) e) ∙ h))
+  unmap-cont-means t o (taken G e) h = go (rangeInRule v n) (pageAligned v n) refl refl
+    where
+      result : unmapContCall p base used v n .result ≡ cut.Unmapped t
+      result = sym (ap (λ (u : ContUnmapping). u .result) e) ∙ h
+
+      go : (x y : Bool) → rangeInRule v n ≡ x → pageAligned v n ≡ y → (t ≡ framesFor p base v (v + n)) × CutOut p (o .pool) base used (used + t) v (v + n)
+      go true true r a = cut-means o (taken G e) G r a t h
+      go true false r a = absurd (no-cut (rw (r, a) at result))
+      go false y r a = absurd (no-cut (rw r at result))
+
   pub laws : Laws p base used v n
   laws = record {
     map-cont-once = λ pa f a b. cases.only;
     map-cont-keeps = map-cont-keeps;
     map-cont-means = map-cont-means;
+    unmap-cont-once = λ a b. cases.only;
+    unmap-cont-keeps = unmap-cont-keeps;
+    unmap-cont-means = unmap-cont-means;
+    unmap-cont-short = unmap-cont-short;
+    unmap-cont-done = unmap-cont-done;
     halves = halves v n;
     start = start v;
     whole = whole v n;

@@ -81,7 +81,12 @@ start v = go (inRule v) refl
         part (upper h k) = range-upper v 0 h k ∙ le-leb (v + 0) 0xffffffffc0000000 (omega arith)
 
 -- the tests together
+pub pages : (v n : ℕ) → pageAligned v n ≡ true → (v % 4096 ≡ 0) × (n % 4096 ≡ 0)
+pages v n a =
+    let q = both (aligned Size4K v) (aligned Size4K n) a in
+    (eqb-true (v % 4096) 0 (q .0), eqb-true (n % 4096) 0 (q .1))
+
 pub range : (v n pa : ℕ) → rangeInRule v n ≡ true → pageAligned v n ≡ true → physicalFits pa n ≡ true → Range v n pa
 range v n pa r a p =
-    let q = both (aligned Size4K v) (aligned Size4K n) a in
-    record { within = halves v n r; start = eqb-true (v % 4096) 0 (q .0); size = eqb-true (n % 4096) 0 (q .1); physical = leb-true (pa + n) (2 ^ 52) p }
+    let q = pages v n a in
+    record { within = halves v n r; start = q .0; size = q .1; physical = leb-true (pa + n) (2 ^ 52) p }

@@ -6,9 +6,10 @@ use common::defs::VirtAddr;
 use common::vm::PageSize;
 use refusal::Refusal;
 use table_map::MapResult;
+use table_unmap_cont::UnmapContResult;
 ghost use mathlib.Core.Path.{_≡_};
 ghost use Rattle.generic_page_table.specs.Rules.{rangeInRule, pageAligned, physicalFits};
-ghost use Rattle.generic_page_table.specs.Calls.{MapContFits};
+ghost use Rattle.generic_page_table.specs.Calls.{MapContFits, UnmapContFits};
 
 // Whether the whole range lies where table calls may, an empty one by its start. What is left of its part is compared with the size, since the end may
 // pass 64 bits.
@@ -74,4 +75,25 @@ pub fn map_cont(
         return MapResult::Refused(Refusal::InvalidArgs);
     }
     table_map_cont::map_cont(pool, base, used, vaddr, size, paddr, flags)
+}
+
+pub fn unmap_cont(
+    pool: &mut [u64],
+    base: u64,
+    used: usize,
+    vaddr: VirtAddr,
+    size: u64,
+) -> UnmapContResult
+    ensures { λ r. ⌜ UnmapContFits (now (pool .entry)) base used vaddr size (record { result = r; pool = now (pool .exit) }) ⌝ }
+{
+    if !form::is_good(pool, base, used) {
+        return UnmapContResult::Refused(Refusal::BadTable);
+    }
+    if !is_range_in_rule(vaddr, size) {
+        return UnmapContResult::Refused(Refusal::BadAddress);
+    }
+    if !is_page_aligned(vaddr, size) {
+        return UnmapContResult::Refused(Refusal::InvalidArgs);
+    }
+    table_unmap_cont::unmap_cont(pool, base, used, vaddr, size)
 }

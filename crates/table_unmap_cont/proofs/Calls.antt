@@ -1,11 +1,16 @@
 -- What `unmapCont` is, by its tests.
 use Prim.Native.Nat.{ℕ, _+_, _-_, _/_, _≤_, _<_}
-use mathlib.Core.Path.{_≡_}
+use mathlib.Core.Bool.{Bool, true, false}
+use mathlib.Core.Path.{_≡_, refl}
 use mathlib.Core.List.{List}
+use native.Mathlib.Omega.{arith}
+use lib.Dec.{eqb, ltb}
 use lib.ListN.{length}
 use borrow.Author.Tests.{lt-ltb, le-ltb, eq-eqb, ne-eqb}
+use Rattle.paging.specs.Choice.{pick}
+use Rattle.refusal.specs.declared.Refusal.{Refusal}
 use Rattle.refusal.specs.declared.Refusal.the-variants.{NoFrames}
-use Rattle.table_unmap_cont.specs.UnmapCont.{needed, splitEnds, cleared, unmapCont}
+use Rattle.table_unmap_cont.specs.UnmapCont.{needed, splitEnds, cleared, ContUnmapping, unmapCont}
 use Rattle.table_unmap_cont.specs.declared.UnmapContResult.the-variants.{Unmapped, Refused}
 
 module _ (p : List ℕ) (b used v n : ℕ) where
@@ -19,3 +24,16 @@ module _ (p : List ℕ) (b used v n : ℕ) where
     pub cont-done : needed p b v (v + n) ≤ length p / 512 - used
         → record { result = Unmapped (needed p b v (v + n)); pool = cleared (v + n - v) (splitEnds p b used v (v + n) .pool) b v (v + n) } ≡ unmapCont p b used v n
     cont-done h = rw (ne-eqb n 0 some, le-ltb (length p / 512 - used) (needed p b v (v + n)) h)
+
+  -- a refused call changes no word
+  pub keeps : (r : Refusal) → unmapCont p b used v n .result ≡ Refused r → unmapCont p b used v n .pool ≡ p
+  keeps r = go (eqb n 0) (ltb (length p / 512 - used) (needed p b v (v + n)))
+    where
+      done : ContUnmapping
+      done = record { result = Unmapped (needed p b v (v + n)); pool = cleared (v + n - v) (splitEnds p b used v (v + n) .pool) b v (v + n) }
+
+      go : (s t : Bool) → pick s (record { result = Unmapped 0; pool = p }) (pick t (record { result = Refused NoFrames; pool = p }) done) .result ≡ Refused r
+          → pick s (record { result = Unmapped 0; pool = p }) (pick t (record { result = Refused NoFrames; pool = p }) done) .pool ≡ p
+      go true t q = refl
+      go false true q = refl
+      go false false q = let z : _≡_ {A = ℕ} 0 1 = cc in absurd (omega arith)
