@@ -38,7 +38,7 @@ differ? t (suc k) v v′ = ⊎-elim all (λ d. inr (d .0, d .1, omega (arith, d 
         lower l b ne = ⊎-elim (λ h. omega arith) (λ h. absurd (ne (omega arith))) (below? l (t + suc k))
 
 -- addresses of F's levels in different entries of level l differ in an index there or above
-apart : (F : Format) (l v v′ : ℕ) → F .top ≤ 4 → l ≤ F .top → Canonical (suc (F .top)) v → Canonical (suc (F .top)) v′ → (v / span l ≡ v′ / span l → ⊥)
+pub apart : (F : Format) (l v v′ : ℕ) → F .top ≤ 4 → l ≤ F .top → Canonical (suc (F .top)) v → Canonical (suc (F .top)) v′ → (v / span l ≡ v′ / span l → ⊥)
     → (j : ℕ) × (j ≤ F .top - l) × (index (F .top - j) v ≡ index (F .top - j) v′ → ⊥)
 apart F l v v′ ht hl c c′ ne = ⊎-elim (λ all. absurd (ne (indexes .tell l (F .top - l) v v′ (omega arith) (rw s c) (rw s c′) all))) found (differ? l (F .top - l) v v′)
   where
@@ -177,7 +177,7 @@ module _ (F : Format) (W W′ : ℕ → ℕ → ℕ) (In : ℕ → Type 0) (root
     unfolding shows
     grown m u hl tab last = ap (seen W′) (grown-walk m u hl tab last)
 
-  at-place? : (n k : ℕ) → ((n ≡ E .n) × (k ≡ index (E .l) x)) ⊎ ((n ≡ E .n) × (k ≡ index (E .l) x) → ⊥)
+  pub at-place? : (n k : ℕ) → ((n ≡ E .n) × (k ≡ index (E .l) x)) ⊎ ((n ≡ E .n) × (k ≡ index (E .l) x) → ⊥)
   at-place? n k = ⊎-elim (λ a. ⊎-elim (λ b. inl (a, b)) (λ nb. inr (λ w. nb (w .1))) (same? k (index (E .l) x))) (λ na. inr (λ w. na (w .0))) (same? n (E .n))
 
   -- the entry that reaches a table is not the one that changed, which was none

@@ -9,3 +9,4 @@ pub mod Sums
 pub mod Downs
 pub mod Between
 pub mod Cuts
+pub mod Visits

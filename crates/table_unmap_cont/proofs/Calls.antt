@@ -10,7 +10,7 @@ use borrow.Author.Tests.{lt-ltb, le-ltb, eq-eqb, ne-eqb}
 use Rattle.paging.specs.Choice.{pick}
 use Rattle.refusal.specs.declared.Refusal.{Refusal}
 use Rattle.refusal.specs.declared.Refusal.the-variants.{NoFrames}
-use Rattle.table_unmap_cont.specs.UnmapCont.{needed, splitEnds, cleared, ContUnmapping, unmapCont}
+use Rattle.table_unmap_cont.specs.UnmapCont.{needed, splitEnds, cutFrom, ContUnmapping, unmapCont}
 use Rattle.table_unmap_cont.specs.declared.UnmapContResult.the-variants.{Unmapped, Refused}
 
 module _ (p : List ℕ) (b used v n : ℕ) where
@@ -22,7 +22,7 @@ module _ (p : List ℕ) (b used v n : ℕ) where
     cont-short h = rw (ne-eqb n 0 some, lt-ltb (length p / 512 - used) (needed p b v (v + n)) h)
 
     pub cont-done : needed p b v (v + n) ≤ length p / 512 - used
-        → record { result = Unmapped (needed p b v (v + n)); pool = cleared (v + n - v) (splitEnds p b used v (v + n) .pool) b v (v + n) } ≡ unmapCont p b used v n
+        → record { result = Unmapped (needed p b v (v + n)); pool = cutFrom (splitEnds p b used v (v + n)) b v (v + n) } ≡ unmapCont p b used v n
     cont-done h = rw (ne-eqb n 0 some, le-ltb (length p / 512 - used) (needed p b v (v + n)) h)
 
   -- a refused call changes no word
@@ -30,7 +30,7 @@ module _ (p : List ℕ) (b used v n : ℕ) where
   keeps r = go (eqb n 0) (ltb (length p / 512 - used) (needed p b v (v + n)))
     where
       done : ContUnmapping
-      done = record { result = Unmapped (needed p b v (v + n)); pool = cleared (v + n - v) (splitEnds p b used v (v + n) .pool) b v (v + n) }
+      done = record { result = Unmapped (needed p b v (v + n)); pool = cutFrom (splitEnds p b used v (v + n)) b v (v + n) }
 
       go : (s t : Bool) → pick s (record { result = Unmapped 0; pool = p }) (pick t (record { result = Refused NoFrames; pool = p }) done) .result ≡ Refused r
           → pick s (record { result = Unmapped 0; pool = p }) (pick t (record { result = Refused NoFrames; pool = p }) done) .pool ≡ p

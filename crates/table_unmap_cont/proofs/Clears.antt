@@ -86,6 +86,7 @@ pub record Emptied (p p′ : List ℕ) (s base used v : ℕ) : Type 0 where
   pub gone : memOf p′ (base / 4096) n (index l v) ≡ 0
   pub other : (m i : ℕ) → Taken (base / 4096) used m → i < 512 → ((m ≡ n) × (i ≡ index l v) → ⊥) → memOf p′ (base / 4096) m i ≡ memOf p (base / 4096) m i
   pub low : l ≤ 3
+  pub in-use : Taken (base / 4096) used n
   pub spans : s ≡ span l
 
 module _ (p : List ℕ) (base used : ℕ) (G : Good p base used) (v : ℕ) where
@@ -111,6 +112,7 @@ module _ (p : List ℕ) (base used : ℕ) (G : Good p base used) (v : ℕ) where
             ∙ put-same p (e .frame) (e .place) 0 in-pool;
         other = λ m i t h ne. put-other p b (e .frame) (e .place) 0 m i (t .0) h small (λ z. ne (z .0, z .1 ∙ P .at));
         low = omega (arith, O .low);
+        in-use = (omega arith, omega (arith, P .taken));
         spans = ap sizeOf (O .size) ∙ span-size (O .l) (O .low);
       }
 
@@ -127,6 +129,7 @@ module _ (p : List ℕ) (base used : ℕ) (G : Good p base used) (v : ℕ) where
         gone = mem-at p b (o .frame) (index (o .level) v) ∙ ap (word p (o .frame)) (sym (P .at)) ∙ U .blank;
         other = λ m i t h ne. refl;
         low = U .low;
+        in-use = (omega arith, omega (arith, P .taken));
         spans = refl;
       }
 
@@ -138,7 +141,7 @@ module _ (p : List ℕ) (base used : ℕ) (G : Good p base used) (v : ℕ) where
       go (Open o) q = subst (λ (w : Walk). Emptied p (byLeaf w (λ x. putWord p (x .frame) (x .place) 0) p) (spanOf w) base used v) (sym q) (of-hole o q)
 
 -- the begin of the next entry, as the code finds it
-next-is : (s v : ℕ) → 0 < s → v + (s - v % s) ≡ v / s * s + s
+pub next-is : (s v : ℕ) → 0 < s → v + (s - v % s) ≡ v / s * s + s
 next-is s v h = omega (arith, div-add-mod' v s, mod-lt v h)
 
 module _ (base used e : ℕ) where

@@ -41,11 +41,12 @@ use Rattle.table_laws.specs.Processor.{InMemory, Processor}
 use Rattle.table_laws.proofs.Processor.{processor}
 use Rattle.table_split.specs.Split.{leafOver, Tables}
 use Rattle.table_split.proofs.Once.{placed-view, leaf-over, span-size}
-use Rattle.table_unmap_cont.specs.UnmapCont.{needed, splitEnds, cleared, ContUnmapping, unmapCont}
+use Rattle.table_unmap_cont.specs.UnmapCont.{needed, splitEnds, cutFrom, ContUnmapping, unmapCont}
 use Rattle.table_unmap_cont.specs.Demand.{framesFor, free, answered, Byte, byte, none, byteOf, CutOut, Demand, one, DemandHolds}
 use Rattle.table_unmap_cont.specs.declared.UnmapContResult.the-variants.{Unmapped}
 use Rattle.table_unmap_cont.proofs.Calls.{cont-empty, cont-short, cont-done}
-use Rattle.table_unmap_cont.proofs.Clears.{clears, cleared-good}
+use Rattle.table_unmap_cont.proofs.Clears.{Cleared, clears, cleared-good}
+use Rattle.table_unmap_cont.proofs.Bound.{enough}
 use Rattle.table_unmap_cont.proofs.Ends.{t₁, D₁, D₂}
 use Rattle.table_unmap_cont.proofs.Four.{needs-four}
 
@@ -227,7 +228,17 @@ module _ (p : List ℕ) (base used v n : ℕ) (G : Good p base used) (pv : v % 4
       t = splitEnds p b used v (v + n)
 
       p′ : List ℕ
-      p′ = cleared (v + n - v) (splitEnds p b used v (v + n) .pool) b v (v + n)
+      p′ = cutFrom (splitEnds p b used v (v + n)) b v (v + n)
+
+      good₂ : Good (splitEnds p b used v (v + n) .pool) base (splitEnds p b used v (v + n) .used)
+      good₂ = D₂ p base used G v (v + n) pv pe more r room .good
+
+      between : Cleared base (splitEnds p b used v (v + n) .used) (v + n) v (splitEnds p b used v (v + n) .pool) p′
+      unfolding p′
+      between =
+          subst (Cleared base (splitEnds p b used v (v + n) .used) (v + n) v (splitEnds p b used v (v + n) .pool))
+          (sym (enough base (splitEnds p b used v (v + n) .used) (v + n) (splitEnds p b used v (v + n) .pool) v good₂ (r .1)))
+          (clears base (splitEnds p b used v (v + n) .used) (v + n) (v + n - v) (splitEnds p b used v (v + n) .pool) v good₂ (omega arith))
 
       ranged : Ranged x86 (Taken b) (λ k. b + k) b (λ l w. 0) v (v + n) (memOf p b) used (memOf p′ b) (t .used)
       unfolding t p′
@@ -237,7 +248,7 @@ module _ (p : List ℕ) (base used v n : ℕ) (G : Good p base used) (pv : v % 4
         W₂ = memOf (t .pool) b;
         at-a = D₁ p base used G v (v + n) pv pe more r room .steps;
         at-e = D₂ p base used G v (v + n) pv pe more r room .steps;
-        between = clears base (t .used) (v + n) (v + n - v) (t .pool) v (D₂ p base used G v (v + n) pv pe more r room .good) (omega arith);
+        between = between;
       }
 
       cutting : Cutting x86 (memOf p b) (memOf p′ b) (Taken b (t .used)) b v (v + n) used (t .used)
@@ -246,7 +257,7 @@ module _ (p : List ℕ) (base used v n : ℕ) (G : Good p base used) (pv : v % 4
 
       good′ : Good p′ base (t .used)
       unfolding t p′
-      good′ = cleared-good base (t .used) (v + n) (v + n - v) (t .pool) v (D₂ p base used G v (v + n) pv pe more r room .good)
+      good′ = cleared-good base (t .used) (v + n) (t .used * 512) (t .pool) v good₂
 
       left : CutOut p p′ base used (used + framesFor p base v (v + n)) v (v + n)
       left = subst (λ (u : ℕ). CutOut p p′ base used u v (v + n)) (cutting .taken) (cut-out p p′ base used (t .used) v (v + n) G good′ cutting)

@@ -1,6 +1,6 @@
 -- What `unmap_cont` does to a well-formed table, word by word. That it takes the frames which its partly cut leaves require, keeps every address outside
 -- and leaves none inside is proved of it: Cut, beside this file.
-use Prim.Native.Nat.{ℕ, zero, suc, _+_, _-_, _/_, _%_}
+use Prim.Native.Nat.{ℕ, zero, suc, _+_, _-_, _*_, _/_, _%_}
 use mathlib.Core.List.{List}
 use lib.Dec.{eqb, ltb, leb}
 use lib.ListN.{length}
@@ -39,7 +39,7 @@ emptied p b v = byLeaf (found p b v) (λ e. putWord p (e .frame) (e .place) 0) p
 abbrev pub after : List ℕ → ℕ → ℕ → ℕ
 after p b v = let s = spanOf (found p b v) in v + (s - v % s)
 
--- "passes over holes, removes whole leaves": every entry from v to e, n of them at most
+-- "passes over holes, removes whole leaves": every entry from v to e, n of them at most; a hole is passed by the span of the unused entry that makes it
 unfoldable pub cleared : ℕ → List ℕ → ℕ → ℕ → ℕ → List ℕ
 cleared zero p b v e = p
 cleared (suc n) p b v e = pick (leb e v) p (cleared n (emptied p b v) b (after p b v) e)
@@ -48,9 +48,13 @@ pub record ContUnmapping : Type 0 where
   pub result : UnmapContResult
   pub pool : List ℕ
 
+-- what is left, with t after the splits: no more entries are met than its tables have, however long the range is
+abbrev pub cutFrom : Tables → ℕ → ℕ → ℕ → List ℕ
+cutFrom t b a e = cleared (t .used * 512) (t .pool) b a e
+
 -- 8 where fewer frames are free than needed, and then nothing is changed; else "its answer is the number of frames taken"
 abbrev pub unmapCont : List ℕ → ℕ → ℕ → ℕ → ℕ → ContUnmapping
 unmapCont p b used v n =
     pick (eqb n 0) (record { result = Unmapped 0; pool = p })
     (pick (ltb (length p / 512 - used) (needed p b v (v + n))) (record { result = Refused NoFrames; pool = p })
-    (record { result = Unmapped (needed p b v (v + n)); pool = cleared (v + n - v) (splitEnds p b used v (v + n) .pool) b v (v + n) }))
+    (record { result = Unmapped (needed p b v (v + n)); pool = cutFrom (splitEnds p b used v (v + n)) b v (v + n) }))

@@ -5,7 +5,7 @@ use refusal::Refusal;
 use walk::Walk;
 ghost use mathlib.Core.Path.{_≡_};
 ghost use mathlib.Core.Logic.{_⊎_};
-ghost use Prim.Native.Nat.{_+_, _-_, _/_, _%_, _^_, _≤_, _<_};
+ghost use Prim.Native.Nat.{_+_, _-_, _*_, _/_, _%_, _≤_, _<_};
 ghost use lib.ListN.{length};
 ghost use Rattle.paging.specs.Level.{span, Canonical, Within};
 ghost use Rattle.paging.specs.Need.{splits, left};
@@ -110,10 +110,11 @@ fn clear_entry(pool: &mut [u64], base: u64, used: usize, vaddr: VirtAddr) -> u64
     }
 }
 
-// Empties every entry from one address to another.
+// Empties every entry from one address to another. No entry is met twice, so there are no more steps than the tables have entries.
 fn clear(pool: &mut [u64], base: u64, used: usize, start: VirtAddr, end: VirtAddr)
     requires { ⌜ Good (now pool) base used ⌝ }
-    ensures { λ _. ⌜ now (pool .exit) ≡ cleared (end - start) (now (pool .entry)) (base / 4096) start end ⌝ }
+    requires { ⌜ Within 4 start end ⌝ }
+    ensures { λ _. ⌜ now (pool .exit) ≡ cleared (used * 512) (now (pool .entry)) (base / 4096) start end ⌝ }
 {
     let mut vaddr = start;
     while vaddr < end {

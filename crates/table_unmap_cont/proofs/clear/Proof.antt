@@ -1,20 +1,22 @@
 -- `clear`: what is left to empty stays what it was at the start.
-use Prim.Native.Nat.{ℕ, _+_, _-_, _/_, _%_, _<_, _≤_}
+use Prim.Native.Nat.{ℕ, _+_, _-_, _*_, _/_, _%_, _<_, _≤_}
 use mathlib.Core.Path.{_≡_, refl, sym, ap, _∙_}
 use mathlib.Core.List.{List}
 use native.Mathlib.Omega.{arith}
 use native.Mathlib.Nat.{mod-lt}
 use lib.ListN.{length}
+use denote.Ref.{now}
 use Rattle.form.specs.Form.{Good}
 use Rattle.walk.specs.Walk.{found}
 use Rattle.table_unmap_cont.specs.UnmapCont.{spanOf, emptied, after, cleared}
 use Rattle.table_unmap_cont.proofs.Clears.{after-gt, offset-lt, cleared-end, cleared-more, cleared-last, empty}
+use Rattle.table_unmap_cont.proofs.Bound.{enough}
 use Rattle.table_unmap_cont.proofs.clear.Statement.{statement}
 use Rattle.table_unmap_cont.proofs.clear.Tie as tie
 
 abbrev Inv-loop : tie.InvT-loop
 Inv-loop pool₀ base used start end vaddr₀ pool vaddr =
-    Good pool base used × (length pool ≡ length pool₀) × (cleared (end - vaddr) pool (base / 4096) vaddr end ≡ cleared (end - start) pool₀ (base / 4096) start end)
+    Good pool base used × (length pool ≡ length pool₀) × (cleared (end - vaddr) pool (base / 4096) vaddr end ≡ cleared (used * 512) pool₀ (base / 4096) start end)
 
 abbrev μ-loop : tie.MeasureT-loop
 μ-loop pool₀ base used start end vaddr₀ pool vaddr = end - vaddr
@@ -24,7 +26,10 @@ next : (p : List ℕ) (b v s : ℕ) → s ≡ spanOf (found p b v) → after p b
 next p b v s e = ap (λ (n : ℕ). v + (n - v % n)) (sym e)
 
 loop-holds : tie.Need-loop-holds Inv-loop μ-loop
-loop-holds c = (c .before .pre, refl, refl)
+loop-holds c =
+    let o = c .before in
+    let a = o .args in
+    (o .pre .0, refl, sym (enough (a .base) (a .used) (a .end) (now (a .pool)) (a .start) (o .pre .0) (o .pre .1 .1)))
 
 clear-entry-requires : tie.Need-clear-entry-requires Inv-loop μ-loop
 clear-entry-requires c κs = c .before .before .loop .inv .0

@@ -8,7 +8,7 @@ use denote.Ref.{now}
 use Rattle.paging.specs.Level.{Within}
 use Rattle.paging.proofs.Cases.{below?}
 use Rattle.table_split.specs.Split.{Tables}
-use Rattle.table_unmap_cont.specs.UnmapCont.{needed, cleared}
+use Rattle.table_unmap_cont.specs.UnmapCont.{needed, cutFrom}
 use Rattle.table_unmap_cont.specs.declared.UnmapContResult.the-variants.{Unmapped}
 use Rattle.table_unmap_cont.proofs.Calls.{cont-empty, cont-short, cont-done}
 use borrow.Author.Needs.{needs}
@@ -55,7 +55,9 @@ split-ends-requires c κs =
     (o .pre .0, ((r .0, omega (arith, r .0, r .1), positive (o .args .vaddr) (o .args .size) (k .before .before .if1 .left), r .2), omega (arith, c .before .if2 .left, k .needed-frames .ensures)))
 
 clear-requires : tie.Need-clear-requires
-clear-requires c κs = c .before .before .before .split-ends .ensures .1
+clear-requires c κs =
+    let e = c .before .before .before in
+    (e .split-ends .ensures .1, e .before .before .before .before .before .before .before .pre .1 .2)
 
 same-length-2 : tie.Need-same-length-2
 same-length-2 c = search needs
@@ -70,7 +72,7 @@ returns-3 c =
     let b : ℕ = a .base / 4096 in
     ap (λ (n : ℕ). record { result = Unmapped n; pool = d .clear .last .0 }) (k .needed-frames .ensures)
     ∙ ap (λ (q : List ℕ). record { result = Unmapped (needed p b (a .vaddr) (a .vaddr + a .size)); pool = q })
-    (d .clear .ensures ∙ ap (λ (t : Tables). cleared (a .vaddr + a .size - a .vaddr) (t .pool) b (a .vaddr) (a .vaddr + a .size)) (e .split-ends .ensures .0))
+    (d .clear .ensures ∙ ap (λ (t : Tables). cutFrom t b (a .vaddr) (a .vaddr + a .size)) (e .split-ends .ensures .0))
     ∙ cont-done p b (a .used) (a .vaddr) (a .size) (k .before .before .if1 .left) (omega (arith, e .before .before .if2 .left, k .needed-frames .ensures))
 
 pub unmap-cont-spec : {M : Type 1} → statement M
