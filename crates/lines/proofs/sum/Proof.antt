@@ -2,8 +2,8 @@
 use Prim.Native.Nat.{_≤_, _-_}
 use lib.ListN.{length}
 use borrow.Author.Needs.{needs}
-use Rattle.tables.proofs.sum.Statement.{statement}
-use Rattle.tables.proofs.sum.Tie as tie
+use Rattle.lines.proofs.sum.Statement.{statement}
+use Rattle.lines.proofs.sum.Tie as tie
 
 abbrev Inv-loop : tie.InvT-loop
 Inv-loop pool total₀ i₀ total i = i ≤ length pool
