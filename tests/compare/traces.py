@@ -37,6 +37,8 @@ class Episode:
 
     def flags(self):
         rng = self.rng
+        if rng.random() < 0.12:
+            return rng.choice((0, 0, 32, 64, 96))
         flags = 0
         for bit in (4, 8, 16, 32, 64):
             if rng.random() < 0.45:
@@ -66,7 +68,9 @@ class Episode:
     def paddr(self, size):
         rng = self.rng
         where = rng.random()
-        if where < 0.7:
+        if where < 0.15:
+            paddr = 0
+        elif where < 0.7:
             paddr = rng.randrange(64) * size
         elif where < 0.8:
             paddr = self.pool.base // size * size
