@@ -12,12 +12,14 @@ from model import END, HALF, M64, PAGE, SIZES, TOP, UPPER, span
 GIB = 1 << 30
 EDGES = (0, GIB, 4 * GIB, 512 * GIB - GIB, 512 * GIB, HALF - GIB, HALF, UPPER - GIB, UPPER, UPPER + GIB, TOP - GIB, TOP, (1 << 64) - GIB)
 OFFSETS = (0, 0x1000, 0x2000, 0x1FF000, 0x200000, 0x201000, 0x3FF000, 0x400000, 0x3FE00000, 0x3FFFF000)
+BITS = (0, 0, 1, 1, 2, 3, 4, 5, 6, 7, 7, 8, 9, 9, 10, 11, 12, 13, 20, 21, 29, 30, 47, 51, 52, 58, 62, 63, 63)
 INDEXES = (0, 0, 1, 2, 255, 256, 510, 511)
 SINGLE = ("map", "map", "map", "unmap", "update", "query", "query")
 ALL = SINGLE + ("map_cont", "map_cont", "unmap_cont", "unmap_cont", "unmap_cont")
 
 
 def text(line):
+    """A line as it stands in a trace."""
     if line[0] == "raw":
         return line[1]
     return " ".join([line[0]] + ["-" if f is None else "%x" % f for f in line[1:]])
@@ -214,37 +216,52 @@ class Episode:
         return None
 
     def damaged(self):
-        """A good pool, damaged in one word, used, and mended."""
+        """A good pool, damaged in one word, used, and mended, some times over."""
         self.ready()
         rng, pool = self.rng, self.pool
-        for _ in range(rng.randint(1, 4)):
-            kind = rng.random()
-            if kind < 0.5 and pool.words:
-                at = rng.choice(sorted(pool.words))
-                word = pool.words[at] ^ 1 << rng.randrange(64)
-            elif kind < 0.7:
-                at = rng.randrange(pool.used) * 512 + rng.choice(INDEXES)
-                word = pool.base + PAGE * rng.randint(-1, pool.frames) & M64 | 7
-            elif kind < 0.8 and pool.words:
-                at = rng.choice(sorted(pool.words))
-                word = 0
-            else:
-                at = rng.randrange(pool.used * 512)
-                word = rng.choice((rng.getrandbits(64), model.leaf(self.paddr(PAGE) % END, self.flags(), rng.randrange(3))))
+        for n in range(rng.randint(4, 12)):
+            at, word = self.damage()
             old = pool.words.get(at, 0)
             self.add("word", at, word)
-            self.steps(rng.randint(1, 4))
+            self.step(n)
             if pool.formed is False:
                 self.add("word", at, old)
-            self.steps(rng.randint(1, 4))
+            self.step(n)
+
+    def damage(self):
+        """A place and a word that hardly belongs there."""
+        rng, pool = self.rng, self.pool
+        kind = rng.random()
+        if pool.words and kind < 0.35:
+            at = rng.choice(sorted(pool.words))
+            return at, pool.words[at] ^ 1 << rng.choice(BITS)
+        if pool.words and kind < 0.4:
+            return rng.choice(sorted(pool.words)), 0
+        at = rng.randrange(pool.used) * 512 + rng.choice(INDEXES)
+        if kind < 0.6:
+            return at, pool.base + PAGE * rng.randint(-1, pool.frames) & M64 | 7
+        if kind < 0.65:
+            return at, rng.getrandbits(64)
+        # a leaf, of some level, perhaps not aligned or with rights that do not go together
+        level = rng.randrange(4)
+        paddr = rng.choice((0, span(level), span(level) // 2, PAGE, END - span(level))) & END - 1
+        return at, model.leaf(paddr, self.flags(), level) ^ rng.choice((0, 0, 1, 2, 1 << 63, 1 << 9))
 
     def misshapen(self):
-        """Pools of a wrong length, base or `used`."""
+        """Pools of a wrong length, base or `used`; or of the largest that is right."""
         rng = self.rng
-        frames = rng.choice((0, 1, 2, 5, 64))
-        base = rng.choice((0x100000, 0x100001, 0x100800, END - PAGE * frames, END - PAGE * frames + PAGE, END, 1 << 63, M64 - PAGE + 1, M64))
-        used = rng.choice((0, 1, frames, frames + 1, 1 << 40, M64))
-        self.add("new", base & M64, frames, used)
+        frames = rng.choice((1, 2, 5, 64))
+        base, used = 0x100000, 1
+        wrong = rng.randrange(4)
+        if wrong == 0:
+            frames = 0
+        elif wrong == 1:
+            base = rng.choice((0x100001, 0x100800, 0x100800, 0x100800, END - PAGE * frames, END - PAGE * frames + PAGE, END, 1 << 63, M64 - PAGE + 1, M64))
+        elif wrong == 2:
+            used = rng.choice((0, frames, frames + 1, 2 * frames, 1 << 40, M64))
+        else:
+            base, used = rng.getrandbits(64), rng.getrandbits(64)
+        self.add("new", base, frames, used)
         for n in range(4):
             self.step(n)
 
@@ -281,6 +298,14 @@ class Episode:
 
 
 FIELDS = {"new": 3, "word": 2, "dump": 0, "sum": 0, "map": 4, "unmap": 1, "update": 3, "query": 1, "map_cont": 4, "unmap_cont": 2}
+
+
+def line_of(text, frames):
+    """A line of a trace, on a pool of so many frames, as a tuple."""
+    if not is_readable(text, frames):
+        return "raw", text
+    name, *fields = text.split(" ")
+    return tuple([name] + [None if f == "-" else int(f, 16) for f in fields])
 
 
 def is_readable(line, frames):
