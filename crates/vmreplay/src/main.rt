@@ -233,7 +233,14 @@ fn dump(words: &[u64], out: &mut [u8], state: State) -> State {
     after
 }
 
-fn renew(words: &mut [u64], out: &mut [u8], state: State, base: u64, frames: u64, used: u64) -> State {
+fn renew(
+    words: &mut [u64],
+    out: &mut [u8],
+    state: State,
+    base: u64,
+    frames: u64,
+    used: u64,
+) -> State {
     let mut after = state;
     zero(words);
     after.base = base;
@@ -289,7 +296,13 @@ fn take(words: &mut [u64], line: &mut [u8], out: &mut [u8], state: State, b: u8)
     after
 }
 
-fn take_all(words: &mut [u64], line: &mut [u8], out: &mut [u8], state: State, input: &[u8]) -> State {
+fn take_all(
+    words: &mut [u64],
+    line: &mut [u8],
+    out: &mut [u8],
+    state: State,
+    input: &[u8],
+) -> State {
     let mut now = state;
     let mut i = 0;
     while i < input.len() {

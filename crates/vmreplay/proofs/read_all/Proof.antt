@@ -1,13 +1,9 @@
-use mathlib.Core.Path.{_≡_, refl}
-use Prim.Native.Nat.{_≤_, _-_}
+-- `read_all`: the turns that are left fall; each lent slice keeps its length.
+use mathlib.Core.Path.{_≡_}
 use lib.ListN.{length}
 use borrow.Author.Needs.{needs}
 use Rattle.vmreplay.proofs.read_all.Statement.{statement}
 use Rattle.vmreplay.proofs.read_all.Tie as tie
-use Rattle.vmreplay.proofs.read_all.Reads as reads
-use Rattle.vmreplay.proofs.read_all.Lts as lts
-use Rattle.vmreplay.proofs.left.Reads as left-reads
-use Rattle.vmreplay.proofs.turn.Reads as turn-reads
 
 abbrev Inv-loop : tie.InvT-loop
 Inv-loop words₀ line₀ out₀ input₀ now₀ turns₀ words line out input now turns = (length words ≡ length words₀) × (length line ≡ length line₀) × (length out ≡ length out₀) × (length input ≡ length input₀)
@@ -15,43 +11,33 @@ Inv-loop words₀ line₀ out₀ input₀ now₀ turns₀ words line out input n
 abbrev μ-loop : tie.MeasureT-loop
 μ-loop words₀ line₀ out₀ input₀ now₀ turns₀ words line out input now turns = turns
 
--- src/main.rt:339:5
 loop-holds : tie.Need-loop-holds Inv-loop μ-loop
 loop-holds c = search needs
 
--- src/main.rt:340:9
 turn-requires : tie.Need-turn-requires Inv-loop μ-loop
 turn-requires c κs = search needs
 
--- src/main.rt:341:9
 left-requires : tie.Need-left-requires Inv-loop μ-loop
 left-requires c κs = search needs
 
--- src/main.rt:339:5
 loop-less : tie.Need-loop-less Inv-loop μ-loop
 loop-less c = search needs
 
--- src/main.rt:339:5
 loop-again : tie.Need-loop-again Inv-loop μ-loop
 loop-again c = search needs
 
--- src/main.rt:330:1
 same-length : tie.Need-same-length Inv-loop μ-loop
 same-length c = search needs
 
--- src/main.rt:330:1
 same-length-2 : tie.Need-same-length-2 Inv-loop μ-loop
 same-length-2 c = search needs
 
--- src/main.rt:330:1
 same-length-3 : tie.Need-same-length-3 Inv-loop μ-loop
 same-length-3 c = search needs
 
--- src/main.rt:330:1
 same-length-4 : tie.Need-same-length-4 Inv-loop μ-loop
 same-length-4 c = search needs
 
--- src/main.rt:330:1
 returns : tie.Need-returns Inv-loop μ-loop
 returns c = search needs
 

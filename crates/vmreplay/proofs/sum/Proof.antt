@@ -1,12 +1,9 @@
+-- `sum`: the index stays within the pool.
 use Prim.Native.Nat.{_≤_, _-_}
 use lib.ListN.{length}
 use borrow.Author.Needs.{needs}
 use Rattle.vmreplay.proofs.sum.Statement.{statement}
 use Rattle.vmreplay.proofs.sum.Tie as tie
-use Rattle.vmreplay.proofs.sum.Reads as reads
-use Rattle.vmreplay.proofs.sum.Lts as lts
-use Rattle.std.proofs.num.wrapping_add_u64.Reads as wrapping-add-u64-reads
-use Rattle.vmreplay.proofs.done.Reads as done-reads
 
 abbrev Inv-loop : tie.InvT-loop
 Inv-loop pool used first₀ second₀ i₀ first second i = i ≤ length pool
@@ -14,43 +11,33 @@ Inv-loop pool used first₀ second₀ i₀ first second i = i ≤ length pool
 abbrev μ-loop : tie.MeasureT-loop
 μ-loop pool used first₀ second₀ i₀ first second i = length pool - i
 
--- src/main.rt:122:5
 loop-holds : tie.Need-loop-holds Inv-loop μ-loop
 loop-holds c = search needs
 
--- src/main.rt:123:41
 mul-wrapping-add-u64 : tie.Need-mul-wrapping-add-u64 Inv-loop μ-loop
 mul-wrapping-add-u64 c = search needs
 
--- src/main.rt:123:41
 shared-slice-read-wrapping-add-u64 : tie.Need-shared-slice-read-wrapping-add-u64 Inv-loop μ-loop
 shared-slice-read-wrapping-add-u64 c = search needs
 
--- src/main.rt:123:9
 wrapping-add-u64-requires : tie.Need-wrapping-add-u64-requires Inv-loop μ-loop
 wrapping-add-u64-requires c κs = search needs
 
--- src/main.rt:124:9
 wrapping-add-u64-requires-2 : tie.Need-wrapping-add-u64-requires-2 Inv-loop μ-loop
 wrapping-add-u64-requires-2 c κs = search needs
 
--- src/main.rt:125:9
 add-i : tie.Need-add-i Inv-loop μ-loop
 add-i c = search needs
 
--- src/main.rt:122:5
 loop-less : tie.Need-loop-less Inv-loop μ-loop
 loop-less c = search needs
 
--- src/main.rt:122:5
 loop-again : tie.Need-loop-again Inv-loop μ-loop
 loop-again c = search needs
 
--- src/main.rt:127:5
 done-requires : tie.Need-done-requires Inv-loop μ-loop
 done-requires c κs = search needs
 
--- src/main.rt:118:1
 returns : tie.Need-returns Inv-loop μ-loop
 returns c = search needs
 

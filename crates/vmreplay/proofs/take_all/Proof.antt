@@ -1,13 +1,10 @@
-use mathlib.Core.Path.{_≡_, refl}
+-- `take_all`: the index stays within the input; each lent slice keeps its length.
+use mathlib.Core.Path.{_≡_}
 use Prim.Native.Nat.{_≤_, _-_}
 use lib.ListN.{length}
 use borrow.Author.Needs.{needs}
 use Rattle.vmreplay.proofs.take_all.Statement.{statement}
 use Rattle.vmreplay.proofs.take_all.Tie as tie
-use Rattle.vmreplay.proofs.take_all.Reads as reads
-use Rattle.vmreplay.proofs.take_all.Lts as lts
-use Rattle.vmreplay.proofs.output.flush.Reads as flush-reads
-use Rattle.vmreplay.proofs.take.Reads as take-reads
 
 abbrev Inv-loop : tie.InvT-loop
 Inv-loop words₀ line₀ out₀ input now₀ i₀ words line out now i = (i ≤ length input) × (length words ≡ length words₀) × (length line ≡ length line₀) × (length out ≡ length out₀)
@@ -15,47 +12,36 @@ Inv-loop words₀ line₀ out₀ input now₀ i₀ words line out now i = (i ≤
 abbrev μ-loop : tie.MeasureT-loop
 μ-loop words₀ line₀ out₀ input now₀ i₀ words line out now i = length input - i
 
--- src/main.rt:293:5
 loop-holds : tie.Need-loop-holds Inv-loop μ-loop
 loop-holds c = search needs
 
--- src/main.rt:294:43
 shared-slice-read-take : tie.Need-shared-slice-read-take Inv-loop μ-loop
 shared-slice-read-take c = search needs
 
--- src/main.rt:294:9
 take-requires : tie.Need-take-requires Inv-loop μ-loop
 take-requires c κs = search needs
 
--- src/main.rt:295:9
 add-i : tie.Need-add-i Inv-loop μ-loop
 add-i c = search needs
 
--- src/main.rt:293:5
 loop-less : tie.Need-loop-less Inv-loop μ-loop
 loop-less c = search needs
 
--- src/main.rt:293:5
 loop-again : tie.Need-loop-again Inv-loop μ-loop
 loop-again c = search needs
 
--- src/main.rt:297:5
 flush-requires : tie.Need-flush-requires Inv-loop μ-loop
 flush-requires c κs = search needs
 
--- src/main.rt:290:1
 same-length : tie.Need-same-length Inv-loop μ-loop
 same-length c = search needs
 
--- src/main.rt:290:1
 same-length-2 : tie.Need-same-length-2 Inv-loop μ-loop
 same-length-2 c = search needs
 
--- src/main.rt:290:1
 same-length-3 : tie.Need-same-length-3 Inv-loop μ-loop
 same-length-3 c = search needs
 
--- src/main.rt:290:1
 returns : tie.Need-returns Inv-loop μ-loop
 returns c = search needs
 

@@ -1,10 +1,9 @@
+-- `start`: the index stays within the line.
 use Prim.Native.Nat.{_≤_, _-_}
 use lib.ListN.{length}
 use borrow.Author.Needs.{needs}
 use Rattle.vmreplay.proofs.line.start.Statement.{statement}
 use Rattle.vmreplay.proofs.line.start.Tie as tie
-use Rattle.vmreplay.proofs.line.start.Reads as reads
-use Rattle.vmreplay.proofs.line.start.Lts as lts
 
 abbrev Inv-loop : tie.InvT-loop
 Inv-loop line k left₀ i₀ left i = i ≤ length line
@@ -12,35 +11,27 @@ Inv-loop line k left₀ i₀ left i = i ≤ length line
 abbrev μ-loop : tie.MeasureT-loop
 μ-loop line k left₀ i₀ left i = length line - i
 
--- src/line.rt:89:5
 loop-holds : tie.Need-loop-holds Inv-loop μ-loop
 loop-holds c = search needs
 
--- src/line.rt:91:13
 returns : tie.Need-returns Inv-loop μ-loop
 returns c = search needs
 
--- src/line.rt:93:12
 shared-slice-read-if2 : tie.Need-shared-slice-read-if2 Inv-loop μ-loop
 shared-slice-read-if2 c = search needs
 
--- src/line.rt:94:13
 sub-left : tie.Need-sub-left Inv-loop μ-loop
 sub-left c = search needs
 
--- src/line.rt:96:9
 add-i : tie.Need-add-i Inv-loop μ-loop
 add-i c = search needs
 
--- src/line.rt:89:5
 loop-less : tie.Need-loop-less Inv-loop μ-loop
 loop-less c = search needs
 
--- src/line.rt:89:5
 loop-again : tie.Need-loop-again Inv-loop μ-loop
 loop-again c = search needs
 
--- src/line.rt:84:1
 returns-2 : tie.Need-returns-2 Inv-loop μ-loop
 returns-2 c = search needs
 

@@ -1,11 +1,9 @@
+-- `value`: the index stays within the text; the value has room for one digit more once its highest is dropped.
 use Prim.Native.Nat.{_≤_, _-_}
 use lib.ListN.{length}
 use borrow.Author.Needs.{needs}
 use Rattle.vmreplay.proofs.line.value.Statement.{statement}
 use Rattle.vmreplay.proofs.line.value.Tie as tie
-use Rattle.vmreplay.proofs.line.value.Reads as reads
-use Rattle.vmreplay.proofs.line.value.Lts as lts
-use Rattle.vmreplay.proofs.line.digit.Reads as digit-reads
 
 abbrev Inv-loop : tie.InvT-loop
 Inv-loop text n₀ i₀ n i = i ≤ length text
@@ -13,63 +11,48 @@ Inv-loop text n₀ i₀ n i = i ≤ length text
 abbrev μ-loop : tie.MeasureT-loop
 μ-loop text n₀ i₀ n i = length text - i
 
--- src/line.rt:58:9
 returns : tie.Need-returns Inv-loop μ-loop
 returns c = search needs
 
--- src/line.rt:61:9
 returns-2 : tie.Need-returns-2 Inv-loop μ-loop
 returns-2 c = search needs
 
--- src/line.rt:63:8
 shared-slice-read-if3 : tie.Need-shared-slice-read-if3 Inv-loop μ-loop
 shared-slice-read-if3 c = search needs
 
--- src/line.rt:65:13
 returns-3 : tie.Need-returns-3 Inv-loop μ-loop
 returns-3 c = search needs
 
--- src/line.rt:67:9
 returns-4 : tie.Need-returns-4 Inv-loop μ-loop
 returns-4 c = search needs
 
--- src/line.rt:71:5
 loop-holds : tie.Need-loop-holds Inv-loop μ-loop
 loop-holds c = search needs
 
--- src/line.rt:72:23
 shared-slice-read-digit : tie.Need-shared-slice-read-digit Inv-loop μ-loop
 shared-slice-read-digit c = search needs
 
--- src/line.rt:72:13
 digit-requires : tie.Need-digit-requires Inv-loop μ-loop
 digit-requires c κs = search needs
 
--- src/line.rt:74:13
 returns-5 : tie.Need-returns-5 Inv-loop μ-loop
 returns-5 c = search needs
 
--- src/line.rt:77:13
 mul-n : tie.Need-mul-n Inv-loop μ-loop
 mul-n c = search needs
 
--- src/line.rt:77:13
 add-n : tie.Need-add-n Inv-loop μ-loop
 add-n c = search needs
 
--- src/line.rt:78:9
 add-i : tie.Need-add-i Inv-loop μ-loop
 add-i c = search needs
 
--- src/line.rt:71:5
 loop-less : tie.Need-loop-less Inv-loop μ-loop
 loop-less c = search needs
 
--- src/line.rt:71:5
 loop-again : tie.Need-loop-again Inv-loop μ-loop
 loop-again c = search needs
 
--- src/line.rt:56:1
 returns-6 : tie.Need-returns-6 Inv-loop μ-loop
 returns-6 c = search needs
 
