@@ -256,7 +256,7 @@ class Episode:
         if wrong == 0:
             frames = 0
         elif wrong == 1:
-            base = rng.choice((0x100001, 0x100800, 0x100800, 0x100800, END - PAGE * frames, END - PAGE * frames + PAGE, END, 1 << 63, M64 - PAGE + 1, M64))
+            base = rng.choice((0x100001, 0x100800, 0x100800, END - PAGE * frames, END - PAGE * frames + PAGE, END - PAGE * frames + PAGE, END, 1 << 63, M64 - PAGE + 1, M64))
         elif wrong == 2:
             used = rng.choice((0, frames, frames + 1, 2 * frames, 1 << 40, M64))
         else:
@@ -329,7 +329,7 @@ def is_readable(line, frames):
     return True
 
 
-KINDS = ("fresh",) * 8 + ("ready",) * 8 + ("damaged",) * 2 + ("misshapen", "unreadable")
+KINDS = ("fresh",) * 8 + ("ready",) * 8 + ("damaged",) * 2 + ("misshapen",) * 3 + ("unreadable",)
 
 
 def episodes(seed, calls):
