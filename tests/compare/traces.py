@@ -170,7 +170,15 @@ class Episode:
         """A fresh pool."""
         base, frames = self.shape()
         self.add("new", base, frames, 1)
+        self.litter()
         self.steps(self.rng.randint(8, 40))
+
+    def litter(self):
+        """Words in frames that are not taken; most often none."""
+        rng = self.rng
+        for frame in range(self.pool.used, min(self.pool.frames, self.pool.used + rng.choice((0, 0, 0, 4)))):
+            for k in (0, 511, rng.randrange(512)):
+                self.add("word", frame * 512 + k, rng.choice((rng.getrandbits(64), self.pool.base | 7)))
 
     def mark(self, word):
         return word | self.rng.choice((0, 0, 0, 0x20, 0x40, 0x60))
@@ -203,9 +211,7 @@ class Episode:
             self.add("word", frame * 512 + k, self.mark(model.leaf(paddr, self.flags(), level)))
             vaddr = start + k * size
             self.spots.append((vaddr | (0xFFFF << 48 if vaddr >= HALF else 0), size))
-        for _ in range(rng.choice((0, 0, 3))):
-            if used < frames:
-                self.add("word", rng.randrange(used * 512, frames * 512), rng.getrandbits(64))
+        self.litter()
         self.steps(rng.randint(5, 30))
 
     def free_index(self, frame):
