@@ -15,6 +15,7 @@ use table::QueryResult;
 use table::UnmapResult;
 use table::UpdateResult;
 use table_map::MapResult;
+use table_unmap_cont::UnmapContResult;
 ghost use Prim.Native.Nat.{_≤_, _<_};
 ghost use lib.ListN.{length};
 
@@ -107,6 +108,19 @@ fn mapped(answer: MapResult, used: usize) -> Answer {
     }
 }
 
+fn unmap_cont(pool: &mut [u64], base: u64, used: usize, vaddr: u64, size: u64) -> Answer {
+    match generic_page_table::unmap_cont(pool, base, used, vaddr, size) {
+        UnmapContResult::Unmapped(taken) => done(
+            wrapping_add_u64(used as u64, taken as u64) as usize,
+            1,
+            taken as u64,
+            0,
+            0,
+        ),
+        UnmapContResult::Refused(r) => refused(r.number(), used),
+    }
+}
+
 fn set_word(pool: &mut [u64], used: usize, index: u64, word: u64) -> Answer {
     let at = index as usize;
     if pool.len() <= at {
@@ -141,8 +155,11 @@ fn made(pool: &mut [u64], base: u64, used: usize, what: Line) -> Answer {
         Line::Unmap(vaddr) => unmap(pool, base, used, vaddr),
         Line::Update(vaddr, paddr, flags) => update(pool, base, used, vaddr, paddr, flags),
         Line::Query(vaddr) => query(pool, base, used, vaddr),
-        Line::MapCont(_, _, _, _) => unreadable(used),
-        Line::UnmapCont(_, _) => unreadable(used),
+        Line::MapCont(vaddr, size, paddr, flags) => mapped(
+            generic_page_table::map_cont(pool, base, used, vaddr, size, paddr, flags),
+            used,
+        ),
+        Line::UnmapCont(vaddr, size) => unmap_cont(pool, base, used, vaddr, size),
         Line::New(_, _, _) => unreadable(used),
         Line::Dump => unreadable(used),
         Line::Unreadable => unreadable(used),
