@@ -14,8 +14,7 @@ EDGES = (0, GIB, 4 * GIB, 512 * GIB - GIB, 512 * GIB, HALF - GIB, HALF, UPPER - 
 OFFSETS = (0, 0x1000, 0x2000, 0x1FF000, 0x200000, 0x201000, 0x3FF000, 0x400000, 0x3FE00000, 0x3FFFF000)
 BITS = (0, 0, 1, 1, 2, 3, 4, 5, 6, 7, 7, 8, 9, 9, 10, 11, 12, 13, 20, 21, 29, 30, 47, 51, 52, 58, 62, 63, 63)
 INDEXES = (0, 0, 1, 2, 255, 256, 510, 511)
-SINGLE = ("map", "map", "map", "unmap", "update", "query", "query")
-ALL = SINGLE + ("map_cont", "map_cont", "unmap_cont", "unmap_cont", "unmap_cont")
+CALLS = ("map", "map", "map", "unmap", "update", "query", "query", "map_cont", "map_cont", "unmap_cont", "unmap_cont", "unmap_cont")
 
 
 def text(line):
@@ -347,7 +346,7 @@ def episodes(seed, calls):
         yield episode.lines
 
 
-def exhaustive(calls, length):
+def exhaustive(length):
     """Every trace of so many calls out of a short list, on pools of 1 to 6 frames."""
     short = [
         ("map", 0, SIZES[0], 0x5000, 12),
@@ -363,16 +362,13 @@ def exhaustive(calls, length):
         ("update", 0, 0x1000, 16),
         ("query", 0),
         ("query", 0x200000),
+        ("map_cont", 0, 0x400000, 0, 76),
+        ("map_cont", 0x1FF000, 0x2000, 0x1FF000, 4),
+        ("map_cont", 0, GIB, 0, 76),
+        ("unmap_cont", 0, 0x1000),
+        ("unmap_cont", 0x1000, 0x200000),
+        ("unmap_cont", 0, 2 * GIB),
     ]
-    if "map_cont" in calls:
-        short += [
-            ("map_cont", 0, 0x400000, 0, 76),
-            ("map_cont", 0x1FF000, 0x2000, 0x1FF000, 4),
-            ("map_cont", 0, GIB, 0, 76),
-            ("unmap_cont", 0, 0x1000),
-            ("unmap_cont", 0x1000, 0x200000),
-            ("unmap_cont", 0, 2 * GIB),
-        ]
     for frames in range(1, 7):
         for some in itertools.product(short, repeat=length):
             lines = [("new", 0x100000, frames, 1)]
