@@ -1,8 +1,9 @@
--- A leaf of a pool gives way to a table of its pieces: what `split_at` does, word by word. What it means stands in paging/specs/Split and Steps.
+-- The leaves over the ends of a range give way to tables of their pieces: what `split_ends` does, word by word. What it means stands in paging/specs/Split and Steps.
 use Prim.Native.Nat.{ℕ, zero, suc, _+_, _-_, _*_, _/_}
 use mathlib.Core.Bool.{Bool}
 use mathlib.Core.List.{List}
 use Rattle.paging.specs.Choice.{pick}
+use Rattle.paging.specs.Need.{need}
 use Rattle.common.specs.Page.{levelOf, sizeOf, aligned}
 use Rattle.common.specs.declared.vm.PageSize.{PageSize}
 use Rattle.x86_64.specs.Entry.{addrOf, flagsOf, tableWord}
@@ -37,3 +38,11 @@ splitAt (suc n) p b used v =
     byLeaf (found p b v)
     (λ e. pick (aligned (e .size) v) (record { pool = p; used = used }) (splitAt n (splitLeaf p b used e) b (used + 1) v))
     (record { pool = p; used = used })
+
+-- the frames that cutting [a, e) requires, found from the leaves over its ends
+abbrev pub needed : List ℕ → ℕ → ℕ → ℕ → ℕ
+needed p b a e = need a (leafOver p b a) e (leafOver p b e)
+
+-- both ends become begins of leaves; a leaf can be split twice
+abbrev pub splitEnds : List ℕ → ℕ → ℕ → ℕ → ℕ → Tables
+splitEnds p b used a e = let t = splitAt 2 p b used a in splitAt 2 (t .pool) b (t .used) e

@@ -10,14 +10,17 @@ ghost use mathlib.Core.Logic.{_⊎_};
 ghost use Prim.Native.Nat.{_+_, _-_, _*_, _/_, _%_, _^_, _≤_, _<_};
 ghost use lib.ListN.{length};
 ghost use Rattle.common.specs.Page.{levelOf};
-ghost use Rattle.paging.specs.Level.{span, Canonical};
-ghost use Rattle.paging.specs.Need.{splits};
+ghost use Rattle.paging.specs.Level.{span, Canonical, Within};
+ghost use Rattle.paging.specs.Need.{splits, left};
 ghost use Rattle.pool.specs.Pool.{listed};
 ghost use Rattle.form.specs.Form.{Good};
 ghost use Rattle.walk.specs.Walk.{sizeAt};
-ghost use Rattle.table_split.specs.Split.{piece, splitLeaf, leafOver, splitAt};
+ghost use Rattle.table_split.specs.Split.{piece, splitLeaf, leafOver, splitAt, needed, splitEnds};
 
-// The size of the pieces of a leaf.
+// A 1 GiB leaf is split, and one of its pieces.
+const DEPTH: usize = 2;
+
+// The size of the pieces of a leaf; one of 4 KiB is never split.
 fn piece_size(size: PageSize) -> PageSize
     ensures { λ r. ⌜ r ≡ sizeAt (levelOf size - 1) ⌝ }
 {
@@ -62,8 +65,8 @@ fn split(pool: &mut [u64], base: u64, next: usize, leaf: LeafEntry)
 }
 
 // Splits the leaf over an address, and the piece over it, while the address falls inside; `depth` is how often a leaf can be split. Answers the
-// frames in use afterwards.
-pub fn split_at(pool: &mut [u64], base: u64, used: usize, vaddr: VirtAddr, depth: usize) -> usize
+// frames in use afterwards. The end of the lower half is no address, but no leaf reaches over it, and nothing is split there.
+fn split_at(pool: &mut [u64], base: u64, used: usize, vaddr: VirtAddr, depth: usize) -> usize
     requires { ⌜ Good (now pool) base used ⌝ }
     requires { ⌜ (vaddr % 4096 ≡ 0) × (Canonical 4 vaddr ⊎ (vaddr % span 3 ≡ 0)) ⌝ }
     requires { ⌜ used + splits vaddr (leafOver (now pool) (base / 4096) vaddr) ≤ length (now pool) / 512 ⌝ }
@@ -81,4 +84,70 @@ pub fn split_at(pool: &mut [u64], base: u64, used: usize, vaddr: VirtAddr, depth
     }
     split(pool, base, used, leaf);
     split_at(pool, base, used + 1, vaddr, depth - 1)
+}
+
+// The level of the leaf over an address; 0 also where there is none.
+fn leaf_level(pool: &[u64], base: u64, used: usize, vaddr: VirtAddr) -> usize
+    requires { ⌜ Good (now pool) base used ⌝ }
+    ensures { λ r. ⌜ r ≡ leafOver (now (pool .entry)) (base / 4096) vaddr ⌝ }
+{
+    let Walk::Leaf(leaf) = walk::get_entry(pool, base, used, vaddr) else {
+        return 0;
+    };
+    let size = leaf.size;
+    table_map::level_of(size)
+}
+
+// How many splits it takes until a leaf of the level begins at the address.
+fn count_splits(vaddr: VirtAddr, level: usize) -> usize
+    requires { ⌜ level ≤ 3 ⌝ }
+    ensures { λ r. ⌜ r ≡ splits vaddr level ⌝ }
+{
+    if level == 0 {
+        return 0;
+    }
+    if vaddr % walk::span_at(level) == 0 {
+        return 0;
+    }
+    1 + count_splits(vaddr, level - 1)
+}
+
+// The level of the leaf over an address once the leaves over `start` are split: what both are in is split once.
+fn level_left(start: VirtAddr, vaddr: VirtAddr, level: usize) -> usize
+    requires { ⌜ level ≤ 3 ⌝ }
+    ensures { λ r. ⌜ r ≡ left start vaddr level ⌝ }
+{
+    if level == 0 {
+        return 0;
+    }
+    let span = walk::span_at(level);
+    if start / span != vaddr / span {
+        return level;
+    }
+    if start % span == 0 {
+        return level;
+    }
+    level_left(start, vaddr, level - 1)
+}
+
+// The frames that the partly cut leaves of a range require.
+pub fn needed_frames(pool: &[u64], base: u64, used: usize, start: VirtAddr, end: VirtAddr) -> usize
+    requires { ⌜ Good (now pool) base used ⌝ }
+    ensures { λ r. ⌜ r ≡ needed (now (pool .entry)) (base / 4096) start end ⌝ }
+{
+    let at_start = leaf_level(pool, base, used, start);
+    let at_end = leaf_level(pool, base, used, end);
+    count_splits(start, at_start) + count_splits(end, level_left(start, end, at_end))
+}
+
+// Both ends of a range become begins of leaves. Answers the frames in use afterwards.
+pub fn split_ends(pool: &mut [u64], base: u64, used: usize, start: VirtAddr, end: VirtAddr) -> usize
+    requires { ⌜ Good (now pool) base used ⌝ }
+    requires { ⌜ (start % 4096 ≡ 0) × (end % 4096 ≡ 0) × (start < end) × Within 4 start end ⌝ }
+    requires { ⌜ needed (now pool) (base / 4096) start end ≤ length (now pool) / 512 - used ⌝ }
+    ensures { λ r. ⌜ record { pool = now (pool .exit); used = r } ≡ splitEnds (now (pool .entry)) (base / 4096) used start end ⌝ }
+    ensures { λ r. ⌜ Good (now (pool .exit)) base r ⌝ }
+{
+    let after_start = split_at(pool, base, used, start, DEPTH);
+    split_at(pool, base, after_start, end, DEPTH)
 }

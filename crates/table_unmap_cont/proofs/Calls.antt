@@ -10,7 +10,8 @@ use borrow.Author.Tests.{lt-ltb, le-ltb, eq-eqb, ne-eqb}
 use Rattle.paging.specs.Choice.{pick}
 use Rattle.refusal.specs.declared.Refusal.{Refusal}
 use Rattle.refusal.specs.declared.Refusal.the-variants.{NoFrames}
-use Rattle.table_unmap_cont.specs.UnmapCont.{needed, splitEnds, cutFrom, ContUnmapping, unmapCont}
+use Rattle.table_split.specs.Split.{needed, splitEnds}
+use Rattle.table_unmap_cont.specs.UnmapCont.{cutFrom, ContUnmapping, unmapCont}
 use Rattle.table_unmap_cont.specs.declared.UnmapContResult.the-variants.{Unmapped, Refused}
 
 module _ (p : List ℕ) (b used v n : ℕ) where

@@ -41,13 +41,14 @@ use Rattle.table_laws.specs.Processor.{InMemory, Processor}
 use Rattle.table_laws.proofs.Processor.{processor}
 use Rattle.table_split.specs.Split.{leafOver, Tables}
 use Rattle.table_split.proofs.Once.{placed-view, leaf-over, span-size}
-use Rattle.table_unmap_cont.specs.UnmapCont.{needed, splitEnds, cutFrom, ContUnmapping, unmapCont}
+use Rattle.table_split.specs.Split.{needed, splitEnds}
+use Rattle.table_unmap_cont.specs.UnmapCont.{cutFrom, ContUnmapping, unmapCont}
 use Rattle.table_unmap_cont.specs.Demand.{framesFor, free, answered, Byte, byte, none, byteOf, CutOut, Demand, one, DemandHolds}
 use Rattle.table_unmap_cont.specs.declared.UnmapContResult.the-variants.{Unmapped}
 use Rattle.table_unmap_cont.proofs.Calls.{cont-empty, cont-short, cont-done}
 use Rattle.table_unmap_cont.proofs.Clears.{Cleared, clears, cleared-good}
 use Rattle.table_unmap_cont.proofs.Bound.{enough}
-use Rattle.table_unmap_cont.proofs.Ends.{t₁, D₁, D₂}
+use Rattle.table_split.proofs.Ends.{t₁, D₁, D₂}
 use Rattle.table_unmap_cont.proofs.Four.{needs-four}
 
 -- query's answer, from what the table shows

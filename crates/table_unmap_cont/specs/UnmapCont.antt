@@ -1,12 +1,11 @@
 -- What `unmap_cont` does to a well-formed table, word by word. That it takes the frames which its partly cut leaves require, keeps every address outside
--- and leaves none inside is proved of it: Cut, beside this file.
+-- and leaves none inside is proved of it: Demand, beside this file.
 use Prim.Native.Nat.{ℕ, zero, suc, _+_, _-_, _*_, _/_, _%_}
 use mathlib.Core.List.{List}
 use lib.Dec.{eqb, ltb, leb}
 use lib.ListN.{length}
 use Rattle.paging.specs.Choice.{pick}
 use Rattle.paging.specs.Level.{span}
-use Rattle.paging.specs.Need.{need}
 use Rattle.common.specs.Page.{sizeOf}
 use Rattle.pool.specs.Pool.{putWord}
 use Rattle.refusal.specs.declared.Refusal.the-variants.{NoFrames}
@@ -14,17 +13,9 @@ use Rattle.walk.specs.Walk.{found}
 use Rattle.walk.specs.declared.Walk.{Walk}
 use Rattle.walk.specs.declared.Walk.the-variants.{Leaf, Open}
 use Rattle.table.specs.Table.{byLeaf}
-use Rattle.table_split.specs.Split.{leafOver, Tables, splitAt}
+use Rattle.table_split.specs.Split.{Tables, needed, splitEnds}
 use Rattle.table_unmap_cont.specs.declared.UnmapContResult.{UnmapContResult}
 use Rattle.table_unmap_cont.specs.declared.UnmapContResult.the-variants.{Unmapped, Refused}
-
--- the frames that cutting [a, e) requires, found from the leaves over its ends
-abbrev pub needed : List ℕ → ℕ → ℕ → ℕ → ℕ
-needed p b a e = need a (leafOver p b a) e (leafOver p b e)
-
--- both ends become begins of leaves; a leaf can be split twice
-abbrev pub splitEnds : List ℕ → ℕ → ℕ → ℕ → ℕ → Tables
-splitEnds p b used a e = let t = splitAt 2 p b used a in splitAt 2 (t .pool) b (t .used) e
 
 -- the bytes that the entry at the end of a walk spans
 abbrev pub spanOf : Walk → ℕ
@@ -52,7 +43,7 @@ pub record ContUnmapping : Type 0 where
 abbrev pub cutFrom : Tables → ℕ → ℕ → ℕ → List ℕ
 cutFrom t b a e = cleared (t .used * 512) (t .pool) b a e
 
--- 8 where fewer frames are free than needed, and then nothing is changed; else "its answer is the number of frames taken"
+-- 8 where fewer frames are free than needed, and then nothing is changed; else the answer is the number of frames taken
 abbrev pub unmapCont : List ℕ → ℕ → ℕ → ℕ → ℕ → ContUnmapping
 unmapCont p b used v n =
     pick (eqb n 0) (record { result = Unmapped 0; pool = p })

@@ -8,7 +8,8 @@ use denote.Ref.{now}
 use Rattle.paging.specs.Level.{Within}
 use Rattle.paging.proofs.Cases.{below?}
 use Rattle.table_split.specs.Split.{Tables}
-use Rattle.table_unmap_cont.specs.UnmapCont.{needed, cutFrom}
+use Rattle.table_split.specs.Split.{needed}
+use Rattle.table_unmap_cont.specs.UnmapCont.{cutFrom}
 use Rattle.table_unmap_cont.specs.declared.UnmapContResult.the-variants.{Unmapped}
 use Rattle.table_unmap_cont.proofs.Calls.{cont-empty, cont-short, cont-done}
 use borrow.Author.Needs.{needs}

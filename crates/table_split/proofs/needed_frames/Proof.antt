@@ -5,11 +5,11 @@ use native.Mathlib.Omega.{arith}
 use denote.Ref.{now}
 use Rattle.paging.specs.Need.{splits, left}
 use Rattle.paging.proofs.Counts.{splits-most, left-most}
 use Rattle.table_split.specs.Split.{leafOver}
-use Rattle.table_unmap_cont.proofs.Ends.{level-most}
+use Rattle.table_split.proofs.Ends.{level-most}
 use borrow.Author.Needs.{needs}
-use Rattle.table_unmap_cont.proofs.needed_frames.Statement.{statement}
-use Rattle.table_unmap_cont.proofs.needed_frames.Tie as tie
+use Rattle.table_split.proofs.needed_frames.Statement.{statement}
+use Rattle.table_split.proofs.needed_frames.Tie as tie
 
 leaf-level-requires : tie.Need-leaf-level-requires
 leaf-level-requires c κs = search needs

@@ -5,8 +5,8 @@ use denote.Ref.{now}
 use Rattle.walk.specs.Walk.{found}
 use Rattle.walk.specs.declared.Walk.the-variants.{Leaf, Open}
 use borrow.Author.Needs.{needs}
-use Rattle.table_unmap_cont.proofs.leaf_level.Statement.{statement}
-use Rattle.table_unmap_cont.proofs.leaf_level.Tie as tie
+use Rattle.table_split.proofs.leaf_level.Statement.{statement}
+use Rattle.table_split.proofs.leaf_level.Tie as tie
 
 get-entry-requires : tie.Need-get-entry-requires
 get-entry-requires c κs = search needs

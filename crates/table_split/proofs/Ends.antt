@@ -15,10 +15,10 @@ use Rattle.x86_64.specs.Entry.{x86}
 use Rattle.x86_64.proofs.Format.{lawful}
 use Rattle.pool.specs.Pool.{memOf, Taken}
 use Rattle.form.specs.Form.{Good}
 use Rattle.table_split.specs.Split.{leafOver, Tables, splitAt}
 use Rattle.table_split.proofs.Once.{leaf-over}
 use Rattle.table_split.proofs.Downs.{Downs, downs}
-use Rattle.table_unmap_cont.specs.UnmapCont.{needed, splitEnds}
+use Rattle.table_split.specs.Split.{needed, splitEnds}
 
 module _ (p : List ℕ) (base used : ℕ) (G : Good p base used) where
   abbrev b : ℕ

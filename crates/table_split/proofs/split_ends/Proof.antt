@@ -5,12 +5,12 @@ use lib.ListN.{length}
 use denote.Ref.{now}
 use Rattle.paging.specs.Need.{splits}
 use Rattle.form.specs.Form.{Good}
 use Rattle.table_split.specs.Split.{leafOver, Tables, splitAt}
-use Rattle.table_unmap_cont.specs.UnmapCont.{splitEnds}
-use Rattle.table_unmap_cont.proofs.Ends.{start-at, start-room, end-at, end-room, D₁, D₂}
+use Rattle.table_split.specs.Split.{splitEnds}
+use Rattle.table_split.proofs.Ends.{start-at, start-room, end-at, end-room, D₁, D₂}
 use borrow.Author.Needs.{needs}
-use Rattle.table_unmap_cont.proofs.split_ends.Statement.{statement}
-use Rattle.table_unmap_cont.proofs.split_ends.Tie as tie
+use Rattle.table_split.proofs.split_ends.Statement.{statement}
+use Rattle.table_split.proofs.split_ends.Tie as tie
 
 split-at-requires : tie.Need-split-at-requires
 split-at-requires c κs =

@@ -3,16 +3,16 @@ use mathlib.Core.Path.{_≡_, sym, ap, _∙_}
 use native.Mathlib.Omega.{arith}
 use Rattle.paging.proofs.Levels.{span-pos}
 use Rattle.paging.proofs.Counts.{splits-aligned, splits-most}
-use Rattle.table_unmap_cont.proofs.Needs.{splits-none, splits-one}
+use Rattle.table_split.proofs.Needs.{splits-none, splits-one}
 use Prim.Native.Nat.{ℕ, _+_, _-_, _%_, _<_}
 use borrow.Fn.Kinds.{In}
 use borrow.Fn.PlainCycle.{Measures, is, falls, and}
-use Rattle.table_unmap_cont.proofs.count_splits.Reads as count-splits
-use Rattle.table_unmap_cont.proofs.count_splits.Kinds as count-splits-kinds
-use Rattle.table_unmap_cont.proofs.+count_splits.Lts-count_splits as count-splits-lts
+use Rattle.table_split.proofs.count_splits.Reads as count-splits
+use Rattle.table_split.proofs.count_splits.Kinds as count-splits-kinds
+use Rattle.table_split.proofs.+count_splits.Lts-count_splits as count-splits-lts
 use Rattle.walk.proofs.span_at.Reads as span-at-reads
-use Rattle.table_unmap_cont.proofs.+count_splits.{statement}
-use Rattle.table_unmap_cont.proofs.+count_splits.Tie.{close}
+use Rattle.table_split.proofs.+count_splits.{statement}
+use Rattle.table_split.proofs.+count_splits.Tie.{close}
 
 abbrev μ-count-splits : Measures 0 count-splits-kinds.ps ℕ
 μ-count-splits κs a = a .1 .0

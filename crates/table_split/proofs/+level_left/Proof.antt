@@ -2,16 +2,16 @@
 use mathlib.Core.Path.{_≡_, sym, ap, _∙_}
 use native.Mathlib.Omega.{arith}
 use Rattle.paging.proofs.Levels.{span-pos}
-use Rattle.table_unmap_cont.proofs.Needs.{left-none, left-apart, left-begin, left-lower}
+use Rattle.table_split.proofs.Needs.{left-none, left-apart, left-begin, left-lower}
 use Prim.Native.Nat.{ℕ, _-_, _/_, _%_, _<_}
 use borrow.Fn.Kinds.{In}
 use borrow.Fn.PlainCycle.{Measures, is, falls, and}
-use Rattle.table_unmap_cont.proofs.level_left.Reads as level-left
-use Rattle.table_unmap_cont.proofs.level_left.Kinds as level-left-kinds
-use Rattle.table_unmap_cont.proofs.+level_left.Lts-level_left as level-left-lts
+use Rattle.table_split.proofs.level_left.Reads as level-left
+use Rattle.table_split.proofs.level_left.Kinds as level-left-kinds
+use Rattle.table_split.proofs.+level_left.Lts-level_left as level-left-lts
 use Rattle.walk.proofs.span_at.Reads as span-at-reads
-use Rattle.table_unmap_cont.proofs.+level_left.{statement}
-use Rattle.table_unmap_cont.proofs.+level_left.Tie.{close}
+use Rattle.table_split.proofs.+level_left.{statement}
+use Rattle.table_split.proofs.+level_left.Tie.{close}
 
 abbrev μ-level-left : Measures 0 level-left-kinds.ps ℕ
 μ-level-left κs a = a .1 .1 .0
