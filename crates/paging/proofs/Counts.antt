@@ -9,7 +9,7 @@ use lib.Dec.{eqb, ltb, leb, lit<}
 use borrow.Author.Tests.{eqb-true, eqb-false, ltb-true, ltb-false, lt-ltb, le-ltb, le-leb, lt-leb, eq-eqb, ne-eqb}
 use Rattle.paging.specs.Choice.{pick}
 use Rattle.paging.specs.Level.{span, index}
-use Rattle.paging.specs.Cut.{meets, holds, partly, sum, required}
+use Rattle.paging.specs.Cut.{meets, covers, partly, sum, required}
 use Rattle.paging.specs.Need.{falls, splits, left}
 use Rattle.paging.proofs.Cases.{same?, below?}
 use Rattle.paging.proofs.Levels.{span-pos, offset-suc, above, index-lt}
@@ -115,7 +115,7 @@ partly-true l q a e h f = ⊎-elim at-a at-e f
     at-e : falls l q e ≡ true → partly l q a e ≡ true
     at-e t =
         let b = falls-bytes l q e t in
-        let w : holds l q a e ≡ false = rest (leb a (q * span l)) (lt-leb (q * span l + span l) e (b .1)) in
+        let w : covers l q a e ≡ false = rest (leb a (q * span l)) (lt-leb (q * span l + span l) e (b .1)) in
         rw (lt-ltb a e h, lt-ltb a (q * span l + span l) (omega (arith, b .1)), lt-ltb (q * span l) e (b .0), w)
       where
         rest : (t : Bool) {u : Bool} → u ≡ false → t && u ≡ false
@@ -129,7 +129,7 @@ partly-false l q a e f g = go (meets l q a e) refl
     all true u r = (refl, r)
     all false u r = absurd (let z : _≡_ {A = ℕ} 0 1 = cc in omega arith)
 
-    go : (t : Bool) → meets l q a e ≡ t → t && not (holds l q a e) ≡ false
+    go : (t : Bool) → meets l q a e ≡ t → t && not (covers l q a e) ≡ false
     go false m = refl
     go true m =
         let x = all (ltb a e) (ltb a (q * span l + span l) && ltb (q * span l) e) m in
@@ -184,6 +184,22 @@ pub left-same : (a v l : ℕ) → falls l (v / span l) a ≡ false → left a v 
 unfolding left
 left-same a v zero f = refl
 left-same a v (suc l) f = rw f
+
+-- a leaf is no larger than it must be
+pub left-cut : (a v l : ℕ) → left a v l < l → falls (suc (left a v l)) (v / span (suc (left a v l))) a ≡ true
+unfolding left
+left-cut a v zero h = absurd (omega arith)
+left-cut a v (suc l) h = go (falls (suc l) (v / span (suc l)) a) refl h (left-cut a v l)
+  where
+    go : (t : Bool) → falls (suc l) (v / span (suc l)) a ≡ t → pick t (left a v l) (suc l) < suc l
+        → (left a v l < l → falls (suc (left a v l)) (v / span (suc (left a v l))) a ≡ true)
+        → falls (suc (pick t (left a v l) (suc l))) (v / span (suc (pick t (left a v l) (suc l)))) a ≡ true
+    go false f h ih = absurd (omega arith)
+    go true f h ih = ⊎-elim ih
+        (λ g.
+        let q : left a v l ≡ l = omega (arith, left-most a v l) in
+        rw q f)
+        (below? (left a v l) l)
 
 pub left-less : (a v l : ℕ) → falls (suc l) (v / span (suc l)) a ≡ true → left a v (suc l) ≡ left a v l
 unfolding left

@@ -15,7 +15,7 @@ use Rattle.paging.specs.Need.{falls, splits, left, leafLevel, over}
 use Rattle.paging.specs.Steps.{rewritten, Tame, Ranged}
 use Rattle.paging.proofs.Cases.{below?, no-truth}
 use Rattle.paging.proofs.Walks.{nothing-bar}
-use Rattle.paging.proofs.Counts.{sum-none, falls-in, falls-not, partly-true, splits-aligned, left-most, aligned-under}
+use Rattle.paging.proofs.Counts.{sum-none, falls-in, falls-not, partly-true, splits-aligned, left-most, left-cut, aligned-under}
 use Rattle.paging.proofs.Sums.{over-most, begins, ends, frames-is, frames-most}
 use Rattle.paging.proofs.Downs.{Down, down, falls-none}
 use Rattle.paging.proofs.Between.{Done, between}
@@ -61,6 +61,7 @@ module _ (F : Format) (root : ℕ) (G : Lawful F) (low : F .top ≤ 4) (marks : 
     inside = λ v g h. absurd (omega arith);
     formed = T;
     untouched = λ v l w c o s p. s;
+    largest = λ v c o h. absurd (omega arith);
   }
 
   most : (W : ℕ → ℕ → ℕ) (a e : ℕ) → Within (suc (F .top)) a e → frames F W root a e ≤ 2 * F .leafTop
@@ -139,14 +140,42 @@ module _ (F : Format) (root : ℕ) (G : Lawful F) (low : F .top ≤ 4) (marks : 
         go leaf q = at l (ap (λ (y : Kind). byKind y 0 l (λ i. 0)) q) (falls-not l (v / span l) x n)
         go (table m) q = at 0 (ap (λ (y : Kind). byKind y 0 l (λ i. 0)) q) low-none
 
-    untouched : (v l w : ℕ) → Canonical (suc (F .top)) v → (v < a) ⊎ (e ≤ v) → shows F W root v ≡ view l w → partly l (v / span l) a e ≡ false
-        → shows F W′ root v ≡ view l w
+    untouched : (v l w : ℕ) → Canonical (suc (F .top)) v → (v < a) ⊎ (e ≤ v) → shows F W root v ≡ view l w
+        → (F .kind l w ≡ nothing) ⊎ (partly l (v / span l) a e ≡ false) → shows F W′ root v ≡ view l w
     untouched v l w c o s p =
-        let fa = spared v l w a pa s (λ f. no-truth (sym p ∙ partly-true l (v / span l) a e h (inl f))) in
-        let fe = spared v l w e pe s (λ f. no-truth (sym p ∙ partly-true l (v / span l) a e h (inr f))) in
+        let fa = clear a pa (λ f. partly-true l (v / span l) a e h (inl f)) in
+        let fe = clear e pe (λ f. partly-true l (v / span l) a e h (inr f)) in
         let v₁ = A .views v c fa in
         let v₂ = B .views v c (subst (λ (z : View). falls (leafLevel F z) (v / span (leafLevel F z)) e ≡ false) (sym v₁) fe) in
         D .outside v c o ∙ v₂ ∙ v₁ ∙ s
+      where
+        clear : (x : ℕ) → x % 4096 ≡ 0 → (falls l (v / span l) x ≡ true → partly l (v / span l) a e ≡ true) → falls (over F W root v) (v / span (over F W root v)) x ≡ false
+        clear x page f = ⊎-elim
+            (λ n.
+            let z : over F W root v ≡ 0 = ap (leafLevel F) s ∙ ap (λ (y : Kind). byKind y 0 l (λ i. 0)) n in
+            subst (λ (i : ℕ). falls i (v / span i) x ≡ false) (sym z) (falls-not 0 (v / span 0) x (λ t. omega (arith, page, falls-in 0 (v / span 0) x t .1))))
+            (λ q. spared v l w x page s (λ t. no-truth (sym q ∙ f t)))
+            p
+
+    -- the level of the leaf over an address outside
+    level-is : (v : ℕ) → Canonical (suc (F .top)) v → (v < a) ⊎ (e ≤ v) → over F W′ root v ≡ left e v (left a v (over F W root v))
+    level-is v c o = ap (leafLevel F) (D .outside v c o) ∙ B .levels v c ∙ ap (left e v) (A .levels v c)
+
+    largest : (v : ℕ) → Canonical (suc (F .top)) v → (v < a) ⊎ (e ≤ v) → over F W′ root v < over F W root v
+        → partly (suc (over F W′ root v)) (v / span (suc (over F W′ root v))) a e ≡ true
+    largest v c o lt = rw (level-is v c o) (⊎-elim by-e by-a (below? (left e v (left a v (over F W root v))) (left a v (over F W root v))))
+      where
+        m : ℕ
+        m = left e v (left a v (over F W root v))
+
+        by-e : left e v (left a v (over F W root v)) < left a v (over F W root v) → partly (suc m) (v / span (suc m)) a e ≡ true
+        by-e l = partly-true (suc m) (v / span (suc m)) a e h (inr (left-cut e v (left a v (over F W root v)) l))
+
+        by-a : left a v (over F W root v) ≤ left e v (left a v (over F W root v)) → partly (suc m) (v / span (suc m)) a e ≡ true
+        by-a l =
+            let q : left a v (over F W root v) ≡ m = omega (arith, left-most e v (left a v (over F W root v))) in
+            let less : left a v (over F W root v) < over F W root v = omega (arith, level-is v c o) in
+            partly-true (suc m) (v / span (suc m)) a e h (inl (subst (λ (n : ℕ). falls (suc n) (v / span (suc n)) a ≡ true) q (left-cut a v (over F W root v) less)))
 
     cut-out : Cutting F W W′ (In k′) root a e k k′
     cut-out = record {
@@ -155,6 +184,7 @@ module _ (F : Format) (root : ℕ) (G : Lawful F) (low : F .top ≤ 4) (marks : 
       inside = inside;
       formed = D .formed;
       untouched = untouched;
+      largest = largest;
     }
 
 pub cuts : CutsHold

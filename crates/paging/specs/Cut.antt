@@ -15,7 +15,7 @@ use mathlib.Core.Logic.{_⊎_}
 use lib.Dec.{ltb, leb}
 use Rattle.paging.specs.Choice.{pick}
 use Rattle.paging.specs.Level.{span, Canonical, Within}
-use Rattle.paging.specs.Format.{byKind, Format, Lawful}
+use Rattle.paging.specs.Format.{nothing, byKind, Format, Lawful}
 use Rattle.paging.specs.Table.{view, shows, nowhere, translates, Formed}
 use Rattle.paging.specs.Need.{need, over}
 use Rattle.paging.specs.Steps.{Ranged}
@@ -24,12 +24,12 @@ use Rattle.paging.specs.Steps.{Ranged}
 abbrev pub meets : ℕ → ℕ → ℕ → ℕ → Bool
 meets l q a e = ltb a e && (ltb a (q * span l + span l) && ltb (q * span l) e)
 
-abbrev pub holds : ℕ → ℕ → ℕ → ℕ → Bool
-holds l q a e = leb a (q * span l) && leb (q * span l + span l) e
+abbrev pub covers : ℕ → ℕ → ℕ → ℕ → Bool
+covers l q a e = leb a (q * span l) && leb (q * span l + span l) e
 
 -- the block is partly cut: the range takes some of it and leaves some
 abbrev pub partly : ℕ → ℕ → ℕ → ℕ → Bool
-partly l q a e = meets l q a e && not (holds l q a e)
+partly l q a e = meets l q a e && not (covers l q a e)
 
 -- f 0 + f 1 + .. + f (n - 1)
 unfoldable pub sum : ℕ → (ℕ → ℕ) → ℕ
@@ -42,7 +42,7 @@ unfoldable pub required : ℕ → ℕ → ℕ → ℕ → ℕ
 required zero q a e = 0
 required (suc l) q a e = pick (partly (suc l) q a e) (1 + sum 512 (λ i. required l (q * 512 + i) a e)) 0
 
--- the leaves in frame n of level l and in the tables below it, where entry k of the frame is block at k
+-- the leaves in frame n of level l and in the tables below it, where entry k of the frame is block at k; those of the lowest level require nothing
 unfoldable pub under : Format → (ℕ → ℕ → ℕ) → ℕ → ℕ → ℕ → ℕ → (ℕ → ℕ) → ℕ
 under F W a e zero n at = 0
 under F W a e (suc l) n at =
@@ -66,8 +66,11 @@ pub record Cutting (F : Format) (W W′ : ℕ → ℕ → ℕ) (In′ : ℕ → 
   pub inside : (v : ℕ) → a ≤ v → v < e → translates F W′ root v ≡ nowhere
   pub formed : Formed F W′ In′ root
   -- no entry outside changes but those of partly cut leaves
-  pub untouched : (v l w : ℕ) → Canonical (suc (F .top)) v → (v < a) ⊎ (e ≤ v) → shows F W root v ≡ view l w → partly l (v / span l) a e ≡ false
-      → shows F W′ root v ≡ view l w
+  pub untouched : (v l w : ℕ) → Canonical (suc (F .top)) v → (v < a) ⊎ (e ≤ v) → shows F W root v ≡ view l w
+      → (F .kind l w ≡ nothing) ⊎ (partly l (v / span l) a e ≡ false) → shows F W′ root v ≡ view l w
+  -- what is kept of one stands in the largest leaves that fit: any larger block would be partly cut
+  pub largest : (v : ℕ) → Canonical (suc (F .top)) v → (v < a) ⊎ (e ≤ v) → over F W′ root v < over F W root v
+      → partly (suc (over F W′ root v)) (v / span (suc (over F W′ root v))) a e ≡ true
 
 -- What is proved of it: `CutsHold`, below.
 pub record Cuts (F : Format) (root : ℕ) : Type 1 where

@@ -2,7 +2,7 @@
 use Prim.Native.Nat.{ℕ, zero, suc, _+_, _-_, _*_, _/_, _%_, _^_, _<_, _≤_}
 use mathlib.Core.Path.{_≡_, refl, sym, ap, _∙_, subst}
 use mathlib.Core.Bool.{Bool, true, false}
-use mathlib.Core.Logic.{_⊎_, ⊎-elim}
+use mathlib.Core.Logic.{_⊎_, inl, inr, ⊎-elim}
 use mathlib.Core.List.{List}
 use native.Mathlib.Omega.{arith}
 use lib.Dec.{eqb, lit<}
@@ -19,7 +19,8 @@ use Rattle.paging.proofs.Cases.{same?, below?}
 use Rattle.paging.proofs.Counts.{sum-ext, sum-none}
 use Rattle.paging.proofs.Cuts.{cuts}
 use Rattle.common.specs.Flags.{READ, WRITE, EXECUTE, USER, has}
-use Rattle.common.specs.Page.{sizeOf}
+use Rattle.common.specs.Page.{levelOf, sizeOf}
+use Rattle.common.specs.declared.defs.MMUFlags.{MMUFlags}
 use Rattle.common.specs.declared.vm.PageSize.{PageSize}
 use Rattle.x86_64.specs.Entry.{addrOf, flagsOf, x86}
 use Rattle.x86_64.proofs.Format.{lawful}
@@ -161,12 +162,37 @@ module _ (p p′ : List ℕ) (base used used′ a e : ℕ) (G : Good p base used
       ap answered (query-shown p′ base used′ G′ v) ∙ answered-as v (showsIn p′ base v) ∙ C .outside v c o
       ∙ sym (ap answered (query-shown p base used G v) ∙ answered-as v (showsIn p base v))
 
-  untouched : (v l w : ℕ) → Canonical 4 v → (v < a) ⊎ (e ≤ v) → showsIn p base v ≡ view l w → partly l (v / span l) a e ≡ false
+  untouched : (v l w : ℕ) → Canonical 4 v → (v < a) ⊎ (e ≤ v) → showsIn p base v ≡ view l w → (w ≡ 0) ⊎ (partly l (v / span l) a e ≡ false)
       → (showsIn p′ base v ≡ view l w) × (queried p′ (base / 4096) v ≡ queried p (base / 4096) v)
   unfolding x86
   untouched v l w c o s q =
-      let t = C .untouched v l w c o s q in
+      let t = C .untouched v l w c o s (⊎-elim (λ z. inl (ap (x86 .kind l) z ∙ lawful .blank l)) (λ n. inr n) q) in
       (t, query-shown p′ base used′ G′ v ∙ ap (asQuery v) (t ∙ sym s) ∙ sym (query-shown p base used G v))
+
+  -- the level of the leaf over an address that query answers
+  over-query : (q : List ℕ) (u : ℕ) (H : Good q base u) (v x : ℕ) (f : MMUFlags) (s : PageSize) → queried q (base / 4096) v ≡ query.Page x f s
+      → over x86 (memOf q (base / 4096)) (base / 4096) v ≡ levelOf s
+  over-query q u H v x f s e = go (found q (base / 4096) v) refl
+    where
+      go : (w : Walk) → found q (base / 4096) v ≡ w → over x86 (memOf q (base / 4096)) (base / 4096) v ≡ levelOf s
+      go (Open o) r =
+          let none : query.Refused NotMapped ≡ query.Page x f s = rw r at e in
+          let z : _≡_ {A = ℕ} 0 1 = cc in
+          absurd (omega arith)
+      go (Leaf l) r =
+          let same : query.Page (addrOf (word q (l .frame) (l .place)) + v % sizeOf (l .size)) (record { 0 = flagsOf (word q (l .frame) (l .place)) }) (l .size) ≡ query.Page x f s = rw r at e in
+          let es : l .size ≡ s = cc in
+          let lv : leafOver q (base / 4096) v ≡ levelOf (l .size) = rw r in
+          sym (leaf-over q (base / 4096) u (H .formed) v) ∙ lv ∙ ap levelOf es
+
+  largest : (v x x′ : ℕ) (f f′ : MMUFlags) (s s′ : PageSize) → Canonical 4 v → (v < a) ⊎ (e ≤ v)
+      → queried p (base / 4096) v ≡ query.Page x f s → queried p′ (base / 4096) v ≡ query.Page x′ f′ s′ → levelOf s′ < levelOf s
+      → partly (suc (levelOf s′)) (v / span (suc (levelOf s′))) a e ≡ true
+  unfolding x86
+  largest v x x′ f f′ s s′ c o q q′ h =
+      let before = over-query p used G v x f s q in
+      let after = over-query p′ used′ G′ v x′ f′ s′ q′ in
+      subst (λ (m : ℕ). partly (suc m) (v / span (suc m)) a e ≡ true) after (C .largest v c o (omega (arith, before, after)))
 
   cut-out : CutOut p p′ base used used′ a e
   cut-out = record {
@@ -174,6 +200,7 @@ module _ (p p′ : List ℕ) (base used used′ a e : ℕ) (G : Good p base used
     outside = outside;
     inside = inside;
     untouched = untouched;
+    largest = largest;
     manual-outside = λ mem mem′ M M′ v c o. byte-is p′ base used′ G′ mem′ M′ v ∙ ap byteBy (outside v c o) ∙ sym (byte-is p base used G mem M v);
     manual-inside = λ mem′ M′ v h l. processor p′ base used′ G′ mem′ M′ .lacks v (inside v h l);
   }

@@ -155,6 +155,7 @@ needs-four = record {
   e = 0x80001000;
   good = good;
   range = (omega arith, inl (omega arith));
+  pages = (refl, refl);
   four = four;
 }
   where

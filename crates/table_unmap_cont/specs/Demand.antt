@@ -6,9 +6,9 @@
 --   more."
 --
 -- In this order: what a cut requires, what query answers, what is left, the demand, and the theorem.
-use Prim.Native.Nat.{ℕ, _+_, _-_, _*_, _/_, _%_, _<_, _≤_}
+use Prim.Native.Nat.{ℕ, suc, _+_, _-_, _*_, _/_, _%_, _<_, _≤_}
 use mathlib.Core.Path.{_≡_}
-use mathlib.Core.Bool.{Bool, false}
+use mathlib.Core.Bool.{Bool, true, false}
 use mathlib.Core.Logic.{_⊎_}
 use mathlib.Core.List.{List}
 use lib.ListN.{length}
@@ -16,6 +16,9 @@ use Rattle.paging.specs.Choice.{pick}
 use Rattle.paging.specs.Level.{span, Canonical, Within}
 use Rattle.paging.specs.Table.{view, Translation, to, nowhere}
 use Rattle.paging.specs.Cut.{partly, sum, required, frames}
+use Rattle.common.specs.Page.{levelOf}
+use Rattle.common.specs.declared.defs.MMUFlags.{MMUFlags}
+use Rattle.common.specs.declared.vm.PageSize.{PageSize}
 use Rattle.x86_64.specs.Entry.{x86}
 use Rattle.intel.specs.Intel.{Rights, Answer, fault, maps, intel}
 use Rattle.pool.specs.Pool.{memOf}
@@ -59,8 +62,12 @@ pub record CutOut (p p′ : List ℕ) (base used used′ a e : ℕ) : Type 0 whe
   -- "no address inside has a frame any more"
   pub inside : (v : ℕ) → a ≤ v → v < e → queried p′ (base / 4096) v ≡ query.Refused NotMapped
   -- no entry outside changes, nor query's answer with it, but those of partly cut leaves
-  pub untouched : (v l w : ℕ) → Canonical 4 v → (v < a) ⊎ (e ≤ v) → showsIn p base v ≡ view l w → partly l (v / span l) a e ≡ false
+  pub untouched : (v l w : ℕ) → Canonical 4 v → (v < a) ⊎ (e ≤ v) → showsIn p base v ≡ view l w → (w ≡ 0) ⊎ (partly l (v / span l) a e ≡ false)
       → (showsIn p′ base v ≡ view l w) × (queried p′ (base / 4096) v ≡ queried p (base / 4096) v)
+  -- what is kept of one stands in the largest leaves that fit: any larger block would be partly cut
+  pub largest : (v x x′ : ℕ) (f f′ : MMUFlags) (s s′ : PageSize) → Canonical 4 v → (v < a) ⊎ (e ≤ v)
+      → queried p (base / 4096) v ≡ query.Page x f s → queried p′ (base / 4096) v ≡ query.Page x′ f′ s′ → levelOf s′ < levelOf s
+      → partly (suc (levelOf s′)) (v / span (suc (levelOf s′))) a e ≡ true
   -- the same by the manual, whatever else memory holds before and after
   pub manual-outside : (mem mem′ : ℕ → ℕ) → InMemory p base used mem → InMemory p′ base used′ mem′
       → (v : ℕ) → Canonical 4 v → (v < a) ⊎ (e ≤ v) → byteOf (intel mem′ base v) ≡ byteOf (intel mem base v)
@@ -90,6 +97,7 @@ pub record NeedsFour : Type 0 where
   pub e : ℕ
   pub good : Good p base used
   pub range : Within 4 a e
+  pub pages : (a % 4096 ≡ 0) × (e % 4096 ≡ 0)
   pub four : framesFor p base a e ≡ 4
 
 pub record DemandHolds : Type 0 where
