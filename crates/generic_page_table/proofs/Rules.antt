@@ -22,6 +22,14 @@ by-rest v n e h = ⊎-elim
     (λ (g : v + n ≤ e). le-leb n (e - v) (omega arith) ∙ sym (le-leb (v + n) e g))
     (below? e (v + n))
 
+-- an address lies before the end of its part
+pub before-end : (v : ℕ) → inRule v ≡ true → v ≤ ruleEnd v
+before-end v e = go (ruled v e)
+  where
+    go : Ruled v → v ≤ ruleEnd v
+    go (lower h) = rw (lt-ltb v (2 ^ 47) h) (omega arith)
+    go (upper h k) = rw (le-ltb v (2 ^ 47) (omega arith)) (omega arith)
+
 module _ (v n : ℕ) where
   pub range-lower : v < 2 ^ 47 → rangeInRule v n ≡ leb (v + n) (2 ^ 47)
   range-lower h = rw (lt-ltb v (2 ^ 47) h)
@@ -31,6 +39,9 @@ module _ (v n : ℕ) where
 
   pub range-out : inRule v ≡ false → rangeInRule v n ≡ false
   range-out e = rw e
+
+  pub range-in : inRule v ≡ true → rangeInRule v n ≡ leb (v + n) (ruleEnd v)
+  range-in e = rw e
 
   -- a range that passes: its start is in the rule, and its end by the end of the same part
   data RuledRange : Type 0 where

@@ -8,24 +8,28 @@ use refusal::Refusal;
 use table_map::MapResult;
 use table_unmap_cont::UnmapContResult;
 ghost use mathlib.Core.Path.{_≡_};
-ghost use Rattle.generic_page_table.specs.Rules.{rangeInRule, pageAligned, physicalFits};
+ghost use Rattle.generic_page_table.specs.Rules.{ruleEnd, rangeInRule, pageAligned, physicalFits};
 ghost use Rattle.generic_page_table.specs.Calls.{MapContFits, UnmapContFits};
+
+// Where the part of the rule ends that the address lies in.
+fn rule_end(vaddr: VirtAddr) -> VirtAddr
+    ensures { λ r. ⌜ r ≡ ruleEnd vaddr ⌝ }
+{
+    if vaddr < 0x8000_0000_0000 {
+        return 0x8000_0000_0000;
+    }
+    0xffff_ffff_c000_0000
+}
 
 // Whether the whole range lies where table calls may, an empty one by its start. What is left of its part is compared with the size, since the end may
 // pass 64 bits.
 fn is_range_in_rule(vaddr: VirtAddr, size: u64) -> bool
     ensures { λ r. ⌜ r ≡ rangeInRule vaddr size ⌝ }
 {
-    if vaddr < 0x8000_0000_0000 {
-        return size <= 0x8000_0000_0000 - vaddr;
-    }
-    if vaddr < 0xffff_8000_0000_0000 {
+    if !page_table::is_in_rule(vaddr) {
         return false;
     }
-    if 0xffff_ffff_c000_0000 <= vaddr {
-        return false;
-    }
-    size <= 0xffff_ffff_c000_0000 - vaddr
+    size <= rule_end(vaddr) - vaddr
 }
 
 // Whether the range is one of whole pages.
@@ -48,6 +52,7 @@ fn is_physical(paddr: PhysAddr, size: u64) -> bool
     size <= 0x10_0000_0000_0000 - paddr
 }
 
+// `map_cont` of the core, where the pool, the flags and the range are such that it can be called.
 pub fn map_cont(
     pool: &mut [u64],
     base: u64,
@@ -77,6 +82,7 @@ pub fn map_cont(
     table_map_cont::map_cont(pool, base, used, vaddr, size, paddr, flags)
 }
 
+// `unmap_cont` of the core, likewise.
 pub fn unmap_cont(
     pool: &mut [u64],
     base: u64,

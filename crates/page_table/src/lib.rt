@@ -15,7 +15,7 @@ ghost use mathlib.Core.Path.{_≡_};
 ghost use Rattle.page_table.specs.Calls.{inRule, placed, knownNew, QueryFits, UnmapFits, UpdateFits, MapFits};
 
 // The addresses that table calls take: both halves but the top GiB.
-fn is_in_rule(vaddr: VirtAddr) -> bool
+pub fn is_in_rule(vaddr: VirtAddr) -> bool
     ensures { λ r. ⌜ r ≡ inRule vaddr ⌝ }
 {
     if vaddr < 0x8000_0000_0000 {

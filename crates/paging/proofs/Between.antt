@@ -11,7 +11,7 @@ use Rattle.paging.specs.Format.{Kind, nothing, leaf, table, byKind, Form
 use Rattle.paging.specs.Table.{View, view, hit, walk, shows, Formed}
 use Rattle.paging.specs.Need.{falls, leafLevel, over}
 use Rattle.paging.specs.Steps as steps
-use Rattle.paging.specs.Steps.{rewritten, Tame, Rewritten}
+use Rattle.paging.specs.Steps.{rewritten, Rewritten}
 use Rattle.paging.proofs.Cases.{same?, below?, no-truth}
 use Rattle.paging.proofs.Levels.{span-pos, index-lt}
 use Rattle.paging.proofs.Formats.{Is, is}
@@ -19,6 +19,12 @@ use Rattle.paging.proofs.Walks.{NoTable, hit-level, hit-frame}
 use Rattle.paging.proofs.Changes.{End, end, outside, inside, formed-put}
 use Rattle.paging.proofs.Counts.{falls-in, falls-not, falls-bytes, falls-false, aligned-in, aligned-under}
 use Rattle.paging.proofs.Downs.{over-near}
+
+-- what may be written in the place of an entry that is no table: an entry of its level that is none; an unused entry stays unused
+pub record Tame (F : Format) (g : ℕ → ℕ → ℕ) : Type 0 where
+  pub blank : (l : ℕ) → g l 0 ≡ 0
+  pub fits : (l w : ℕ) → Entry F l w → ((m : ℕ) → F .kind l w ≡ table m → ⊥) → Entry F l (g l w)
+  pub flat : (l w : ℕ) → Entry F l w → ((m : ℕ) → F .kind l w ≡ table m → ⊥) → (m : ℕ) → F .kind l (g l w) ≡ table m → ⊥
 
 -- the begin of the next entry of level l
 abbrev pub past : ℕ → ℕ → ℕ
@@ -60,7 +66,7 @@ module _ (F : Format) (In : ℕ → ℕ → Type 0) (root : ℕ) where
     pub inside : (u : ℕ) → v ≤ u → u < e → shows F W′ root u ≡ rewritten g (shows F W root u)
     pub outside : (u : ℕ) → Canonical (suc (F .top)) u → (u < v) ⊎ (e ≤ u) → shows F W′ root u ≡ shows F W root u
 
-  module _ (next : ℕ → ℕ) (G : Lawful F) (low : F .top ≤ 4) (g : ℕ → ℕ → ℕ) (tame : Tame F In next root g) (e k : ℕ) (page : e % 4096 ≡ 0) where
+  module _ (next : ℕ → ℕ) (G : Lawful F) (low : F .top ≤ 4) (g : ℕ → ℕ → ℕ) (tame : Tame F g) (e k : ℕ) (page : e % 4096 ≡ 0) where
     -- the addresses from v to e are of one half
     abbrev Half : ℕ → Type 0
     Half v = (e ≤ half (suc (F .top))) ⊎ ((2 ^ 64 - half (suc (F .top)) ≤ v) × (e < 2 ^ 64))

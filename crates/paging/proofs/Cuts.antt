@@ -12,13 +12,13 @@ use Rattle.paging.specs.Format.{Kind, nothing, leaf, table, byKind, Form
 use Rattle.paging.specs.Table.{View, view, shows, nowhere, translated, translates, Formed}
 use Rattle.paging.specs.Cut.{partly, sum, required, under, rootBlock, frames, Cutting, Cuts, CutsHold}
 use Rattle.paging.specs.Need.{falls, splits, left, leafLevel, over}
-use Rattle.paging.specs.Steps.{rewritten, Tame, Ranged}
+use Rattle.paging.specs.Steps.{rewritten, Ranged}
 use Rattle.paging.proofs.Cases.{below?, no-truth}
 use Rattle.paging.proofs.Walks.{nothing-bar}
 use Rattle.paging.proofs.Counts.{sum-none, falls-in, falls-not, partly-true, splits-aligned, left-most, left-cut, aligned-under}
 use Rattle.paging.proofs.Sums.{over-most, begins, ends, frames-is, frames-most}
 use Rattle.paging.proofs.Downs.{Down, down, falls-none}
-use Rattle.paging.proofs.Between.{Done, between}
+use Rattle.paging.proofs.Between.{Tame, Done, between}
 
 -- an empty range requires nothing
 module _ (a : ℕ) where
@@ -47,8 +47,8 @@ module _ (a : ℕ) where
   frames-none F W root = under-none F W (F .top) root (rootBlock (F .top))
 
 module _ (F : Format) (root : ℕ) (G : Lawful F) (low : F .top ≤ 4) (marks : 0 < F .tableMarks) where
-  emptied : (In : ℕ → ℕ → Type 0) (next : ℕ → ℕ) → Tame F In next root (λ l w. 0)
-  emptied In next = record {
+  emptied : Tame F (λ l w. 0)
+  emptied = record {
     blank = λ l. refl;
     fits = λ l w x bar. blank refl;
     flat = λ l w x bar. nothing-bar (G .blank l);
@@ -92,7 +92,7 @@ module _ (F : Format) (root : ℕ) (G : Lawful F) (low : F .top ≤ 4) (marks : 
         aligned-under (over F (R .W₂) root a) (over F (R .W₁) root a - over F (R .W₂) root a) a (rw q (A .begins))
 
     D : Done F In root (λ l w. 0) e k′ a (R .W₂) W′
-    D = between F In root next G low (λ l w. 0) (emptied In next) e k′ pe a (R .W₂) W′ (B .formed) (r .1)
+    D = between F In root next G low (λ l w. 0) emptied e k′ pe a (R .W₂) W′ (B .formed) (r .1)
         (λ u c. falls-none F (R .W₂) (In k′) root (B .formed) a pa a-begins u)
         (λ u c. falls-none F (R .W₂) (In k′) root (B .formed) e pe (B .begins) u)
         (R .between)

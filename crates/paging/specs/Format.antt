@@ -52,6 +52,7 @@ Aligned F l p = (p % span l ≡ 0) × (p < 2 ^ F .physical)
 
 -- what walking and splitting need
 pub record Lawful (F : Format) : Type 0 where
+  -- a leaf stands in a table, and the largest has an address
   pub low : F .leafTop ≤ F .top
   pub room : 12 + 9 * F .leafTop ≤ F .physical
   -- the words that the rules write read back as what was written

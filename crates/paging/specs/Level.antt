@@ -30,7 +30,7 @@ half n = 2 ^ (11 + 9 * n)
 abbrev pub Canonical : ℕ → ℕ → Type 0
 Canonical n v = (v < half n) ⊎ ((2 ^ 64 - half n ≤ v) × (v < 2 ^ 64))
 
--- a range [a, e) of such addresses, in one half; the end of the lower half is itself no such address
+-- a range [a, e) of such addresses, in one half; the end of the lower half is itself no such address, and one that is 2^64 is no number of 64 bits
 abbrev pub Within : ℕ → ℕ → ℕ → Type 0
 Within n a e = (a ≤ e) × ((e ≤ half n) ⊎ ((2 ^ 64 - half n ≤ a) × (e < 2 ^ 64)))
 

@@ -1,4 +1,6 @@
 -- What a cut requires, found from two walks: those of the range's ends. That this is the sum over all leaves is proved (paging/proofs/Sums).
+--
+-- In this order: where an address falls, the splits that it needs, what they leave of another's leaf, both ends together, the leaf over an address.
 use Prim.Native.Nat.{ℕ, zero, suc, _+_, _/_, _%_}
 use mathlib.Core.Bool.{Bool, false}
 use lib.Dec.{eqb, ltb}

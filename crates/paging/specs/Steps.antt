@@ -1,12 +1,13 @@
 -- How a range is cut out of a table, step by step: the leaves over its ends are split until both ends are where leaves begin, then every entry from
 -- one end to the other is rewritten. What a code has to do; what it comes to stands in Cut.
 --
+-- In this order: the splits at one address, every entry of a range rewritten, both together.
 -- Frames are taken one after the other: when k are taken, those that are In k, and the next is `next k`.
 use Prim.Native.Nat.{ℕ, suc, _+_, _*_, _/_, _%_, _^_, _≤_, _<_}
 use mathlib.Core.Path.{_≡_}
 use mathlib.Core.Logic.{_⊎_}
 use Rattle.paging.specs.Level.{span, index}
-use Rattle.paging.specs.Format.{table, Format, Entry}
+use Rattle.paging.specs.Format.{Format}
 use Rattle.paging.specs.Table.{hit, walk, View, view}
 use Rattle.paging.specs.Need.{over}
 use Rattle.paging.specs.Split.{Split}
@@ -28,12 +29,6 @@ module _ (F : Format) (In : ℕ → ℕ → Type 0) (next : ℕ → ℕ) (root :
     rewrites : (v : ℕ) (W W₁ W′ : ℕ → ℕ → ℕ) (l n : ℕ) → v < e → walk F W (F .top) root v ≡ hit l n (index l v)
         → W₁ n (index l v) ≡ g l (W n (index l v)) → ((m i : ℕ) → In k m → i < 512 → ((m ≡ n) × (i ≡ index l v) → ⊥) → W₁ m i ≡ W m i)
         → Rewritten g e k (v / span l * span l + span l) W₁ W′ → Rewritten g e k v W W′
-
-  -- what may be written in the place of an entry that is no table: an entry of its level that is none; an unused entry stays unused
-  pub record Tame (g : ℕ → ℕ → ℕ) : Type 0 where
-    pub blank : (l : ℕ) → g l 0 ≡ 0
-    pub fits : (l w : ℕ) → Entry F l w → ((m : ℕ) → F .kind l w ≡ table m → ⊥) → Entry F l (g l w)
-    pub flat : (l w : ℕ) → Entry F l w → ((m : ℕ) → F .kind l w ≡ table m → ⊥) → (m : ℕ) → F .kind l (g l w) ≡ table m → ⊥
 
   -- both: [a, e) of W, k frames taken, gives W′ and k′ of them
   pub record Ranged (g : ℕ → ℕ → ℕ) (a e : ℕ) (W : ℕ → ℕ → ℕ) (k : ℕ) (W′ : ℕ → ℕ → ℕ) (k′ : ℕ) : Type 0 where

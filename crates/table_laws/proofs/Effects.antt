@@ -37,25 +37,13 @@ use Rattle.table.specs.declared.NewFlags.{NewFlags}
 use Rattle.table.proofs.Laws.{shown, gone, refused-address, rewritten}
 use Rattle.table_map.specs.Map.{filled, leafFor, mapped, Mapping}
 use Rattle.table_map.specs.declared.MapResult.the-variants as map
+use Rattle.walk.proofs.Sizes.{size-level, size-bytes}
 use Rattle.table_map.proofs.Fills.{table-there, short, done}
 use Rattle.table_laws.specs.Effects.{showsIn, translatesIn, Rewrites, Adds, MapAnswer, in-the-way, Effects, EffectsHold}
 use Rattle.table_laws.specs.Effects as effect
 use Rattle.table_laws.proofs.Writes.{rewrites}
 use Rattle.table_laws.proofs.Grows.{nowhere-blank, fills}
 use Rattle.table_laws.proofs.Leaves.{LeafAt, new-leaf, map-leaf}
-
--- the three levels of a leaf and the three sizes
-pub size-level : (l : ℕ) → l ≤ 2 → levelOf (sizeAt l) ≡ l
-size-level zero h = refl
-size-level (suc zero) h = refl
-size-level (suc (suc zero)) h = refl
-size-level (suc (suc (suc l))) h = absurd (omega arith)
-
-pub size-bytes : (l : ℕ) → l ≤ 2 → sizeOf (sizeAt l) ≡ span l
-size-bytes zero h = refl
-size-bytes (suc zero) h = refl
-size-bytes (suc (suc zero)) h = refl
-size-bytes (suc (suc (suc l))) h = absurd (omega arith)
 
 module _ (p : List ℕ) (base used v : ℕ) (G : Good p base used) where
   abbrev b : ℕ

@@ -26,7 +26,8 @@ use Rattle.table.specs.Table.{queried}
 use Rattle.table.specs.declared.QueryResult.the-variants.{Page, Refused}
 use Rattle.table.proofs.Laws.{shown}
 use Rattle.table_laws.specs.Processor.{InMemory, Processor, ProcessorAgrees}
-use Rattle.table_laws.proofs.Effects.{size-bytes, shown-at, queries, queries-not}
+use Rattle.walk.proofs.Sizes.{size-bytes}
+use Rattle.table_laws.proofs.Effects.{shown-at, queries, queries-not}
 
 -- the kind of a word, by the format and by its definition
 kind-of : (l w : ℕ) → x86 .kind l w ≡ leaf → kindAt l w ≡ leaf

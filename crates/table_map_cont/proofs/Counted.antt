@@ -27,7 +27,8 @@ use Rattle.table_map.specs.Map.{grown, under, filled, leafFor, mapped, Mapping}
 use Rattle.table_map.specs.declared.MapResult.the-variants.{Mapped, Refused}
 use Rattle.table_map.proofs.Fills.{grown-length, table-there, short, done}
 use Rattle.table_laws.specs.Effects.{showsIn}
-use Rattle.table_laws.proofs.Effects.{size-level, size-bytes, shown-at, effects}
+use Rattle.walk.proofs.Sizes.{size-level, size-bytes}
+use Rattle.table_laws.proofs.Effects.{shown-at, effects}
 use Rattle.table_map_cont.specs.MapCont.{Range, pageLevel, pages}
 use Rattle.table_map_cont.specs.Count.{begins, countPage, counted}
 use Rattle.table_map_cont.proofs.Heights.{Fits, page-fits}

@@ -26,7 +26,8 @@ use Rattle.table_map.specs.declared.MapResult.{MapResult}
 use Rattle.table_map.specs.declared.MapResult.the-variants.{Mapped, Refused}
 use Rattle.table_map.proofs.Fills.{table-there, short, done}
 use Rattle.table_laws.specs.Effects.{translatesIn, Adds}
-use Rattle.table_laws.proofs.Effects.{size-level, size-bytes, effects}
+use Rattle.walk.proofs.Sizes.{size-level, size-bytes}
+use Rattle.table_laws.proofs.Effects.{effects}
 use Rattle.table_laws.proofs.Frames.{frames-taken}
 use Rattle.table_laws.proofs.Leaves.{map-reads}
 use Rattle.table_map_cont.specs.MapCont.{Range, topLevel, pageLevel, pages, orNothing, mapCont}

@@ -16,7 +16,8 @@ use Rattle.walk.specs.Walk.{sizeAt}
 use Rattle.table_map.specs.Map.{mapped, Mapping}
 use Rattle.table_map.specs.declared.MapResult.{MapResult}
 use Rattle.table_map.specs.declared.MapResult.the-variants.{Mapped, Refused}
-use Rattle.table_laws.proofs.Effects.{size-bytes, effects}
+use Rattle.walk.proofs.Sizes.{size-bytes}
+use Rattle.table_laws.proofs.Effects.{effects}
 use Rattle.table_map_cont.specs.MapCont.{Range, largest, topLevel, pageLevel, pages, orNothing}
 use Rattle.table_map_cont.specs.Count.{begins, countPage, counted}
 use Rattle.table_map_cont.proofs.Heights.{Fits, page-fits, begins-least}

@@ -16,6 +16,7 @@ ghost use Rattle.table_map_cont.specs.Count.{begins, countPage, counted}
 // The level of the largest page that is made: 1 GiB.
 const LARGEST: usize = 2;
 
+// The level of the largest page that these flags allow.
 fn top_level(flags: MMUFlags) -> usize
     ensures { λ r. ⌜ r ≡ topLevel (flags .0) ⌝ }
 {
@@ -180,6 +181,7 @@ fn map_pages(
     MapResult::Mapped(taken)
 }
 
+// Maps `size` bytes from `vaddr` on to those from `paddr` on.
 pub fn map_cont(
     pool: &mut [u64],
     base: u64,

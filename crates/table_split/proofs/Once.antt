@@ -30,23 +30,11 @@ use Rattle.walk.specs.Walk.{sizeAt, found}
 use Rattle.walk.specs.declared.Walk.{Walk}
 use Rattle.walk.specs.declared.Walk.the-variants.{Leaf, Open}
 use Rattle.walk.specs.declared.LeafEntry.{LeafEntry}
+use Rattle.walk.proofs.Sizes.{size-level, size-bytes}
 use Rattle.walk.proofs.Found as walks
 use Rattle.walk.proofs.Found.{Placed, Over, unused}
 use Rattle.table_split.specs.Split.{piece, splitLeaf, leafOver}
 use Rattle.table_split.proofs.Pieces.{piece-is}
-
--- levels and sizes
-pub level-size : (l : ℕ) → l ≤ 2 → levelOf (sizeAt l) ≡ l
-level-size zero h = refl
-level-size (suc zero) h = refl
-level-size (suc (suc zero)) h = refl
-level-size (suc (suc (suc l))) h = absurd (omega arith)
-
-pub span-size : (l : ℕ) → l ≤ 2 → sizeOf (sizeAt l) ≡ span l
-span-size zero h = refl
-span-size (suc zero) h = refl
-span-size (suc (suc zero)) h = refl
-span-size (suc (suc (suc l))) h = absurd (omega arith)
 
 module _ (p : List ℕ) (b used : ℕ) (T : WellFormed p b used) (v : ℕ) where
   -- what the entry that a walk found shows
@@ -67,7 +55,7 @@ module _ (p : List ℕ) (b used : ℕ) (T : WellFormed p b used) (v : ℕ) where
       go : (w : Walk) → found p b v ≡ w → leafOver p b v ≡ over x86 (memOf p b) b v
       go (Leaf e) q =
           let O = walks.over p b used T v e q in
-          rw q (ap levelOf (O .size) ∙ level-size (O .l) (O .low) ∙ sym (level (O .l) (word p (e .frame) (e .place)) leaf (placed-view (O .l) (e .frame) (e .place) (O .placed)) (O .kind)))
+          rw q (ap levelOf (O .size) ∙ size-level (O .l) (O .low) ∙ sym (level (O .l) (word p (e .frame) (e .place)) leaf (placed-view (O .l) (e .frame) (e .place) (O .placed)) (O .kind)))
       go (Open o) q =
           let U = unused p b used T v o q in
           rw q (sym (level (o .level) 0 nothing (placed-view (o .level) (o .frame) (o .place) (U .placed) ∙ ap (view (o .level)) (U .blank)) (lawful .blank (o .level))))
@@ -90,7 +78,7 @@ module _ (p : List ℕ) (base used : ℕ) (G : Good p base used) (v : ℕ) (page
   above = go (O .l) refl
     where
       off-by : (l : ℕ) → O .l ≡ l → v % span l ≡ 0 → ⊥
-      off-by l r z = eqb-false (v % sizeOf (e .size)) 0 off (ap (λ (n : ℕ). v % n) (ap sizeOf (O .size) ∙ span-size (O .l) (O .low) ∙ ap span r) ∙ z)
+      off-by l r z = eqb-false (v % sizeOf (e .size)) 0 off (ap (λ (n : ℕ). v % n) (ap sizeOf (O .size) ∙ size-bytes (O .l) (O .low) ∙ ap span r) ∙ z)
 
       go : (l : ℕ) → O .l ≡ l → Above
       go zero r = absurd (off-by 0 r page)
@@ -104,7 +92,7 @@ module _ (p : List ℕ) (base used : ℕ) (G : Good p base used) (v : ℕ) (page
 
   pub falls : 0 < v % span (suc m)
   falls =
-      let z : v % sizeOf (e .size) ≡ v % span (suc m) = ap (λ (n : ℕ). v % n) (ap sizeOf (O .size) ∙ span-size (O .l) (O .low) ∙ ap span (above .is)) in
+      let z : v % sizeOf (e .size) ≡ v % span (suc m) = ap (λ (n : ℕ). v % n) (ap sizeOf (O .size) ∙ size-bytes (O .l) (O .low) ∙ ap span (above .is)) in
       ⊎-elim (λ h. absurd (eqb-false (v % sizeOf (e .size)) 0 off (omega (arith, z)))) (λ h. h) (below? (v % span (suc m)) 1)
 
   abbrev w : ℕ
@@ -122,11 +110,11 @@ module _ (p : List ℕ) (base used : ℕ) (G : Good p base used) (v : ℕ) (page
   size : sizeAt (levelOf (e .size) - 1) ≡ sizeAt m
   size =
       let z : suc m - 1 ≡ m = omega arith in
-      ap (λ (s : PageSize). sizeAt (levelOf s - 1)) (O .size) ∙ ap (λ (l : ℕ). sizeAt (l - 1)) (level-size (O .l) (O .low) ∙ above .is) ∙ ap sizeAt z
+      ap (λ (s : PageSize). sizeAt (levelOf s - 1)) (O .size) ∙ ap (λ (l : ℕ). sizeAt (l - 1)) (size-level (O .l) (O .low) ∙ above .is) ∙ ap sizeAt z
 
   -- it takes a frame
   pub level-is : leafOver p b v ≡ suc m
-  level-is = rw q (ap levelOf (O .size) ∙ level-size (O .l) (O .low) ∙ above .is)
+  level-is = rw q (ap levelOf (O .size) ∙ size-level (O .l) (O .low) ∙ above .is)
 
   pub wants : 0 < splits v (leafOver p b v)
   wants = omega (arith, ap (splits v) level-is, splits-more m v falls)

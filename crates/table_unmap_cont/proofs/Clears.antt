@@ -33,7 +33,7 @@ use Rattle.walk.specs.declared.OpenEntry.{OpenEntry}
 use Rattle.walk.proofs.Found.{Placed, over, unused}
 use Rattle.table.specs.Table.{byLeaf}
 use Rattle.table_laws.proofs.Writes.{rewrites}
-use Rattle.table_split.proofs.Once.{span-size}
+use Rattle.walk.proofs.Sizes.{size-bytes}
 use Rattle.table_unmap_cont.specs.UnmapCont.{spanOf, emptied, after, cleared}
 
 span-of-pos : (w : Walk) → 0 < spanOf w
@@ -113,7 +113,7 @@ module _ (p : List ℕ) (base used : ℕ) (G : Good p base used) (v : ℕ) where
         other = λ m i t h ne. put-other p b (e .frame) (e .place) 0 m i (t .0) h small (λ z. ne (z .0, z .1 ∙ P .at));
         low = omega (arith, O .low);
         in-use = (omega arith, omega (arith, P .taken));
-        spans = ap sizeOf (O .size) ∙ span-size (O .l) (O .low);
+        spans = ap sizeOf (O .size) ∙ size-bytes (O .l) (O .low);
       }
 
   of-hole : (o : OpenEntry) → found p b v ≡ Open o → Emptied p p (span (o .level)) base used v

@@ -41,7 +41,8 @@ use Rattle.table_laws.specs.Effects.{showsIn}
 use Rattle.table_laws.specs.Processor.{InMemory, Processor}
 use Rattle.table_laws.proofs.Processor.{processor}
 use Rattle.table_split.specs.Split.{leafOver, Tables}
-use Rattle.table_split.proofs.Once.{placed-view, leaf-over, span-size}
+use Rattle.walk.proofs.Sizes.{size-bytes}
+use Rattle.table_split.proofs.Once.{placed-view, leaf-over}
 use Rattle.table_split.specs.Split.{needed, splitEnds}
 use Rattle.table_unmap_cont.specs.UnmapCont.{cutFrom, ContUnmapping, unmapCont}
 use Rattle.table_unmap_cont.specs.Demand.{framesFor, free, answered, Byte, byte, none, byteOf, CutOut, Demand, one, DemandHolds}
@@ -72,7 +73,7 @@ module _ (p : List ℕ) (base used : ℕ) (G : Good p base used) (v : ℕ) where
           let r : queried p (base / 4096) v ≡ query.Page (addrOf w + v % sizeOf (e .size)) (record { 0 = flagsOf w }) (e .size) = rw q in
           r
           ∙ ap (λ (z : PageSize). query.Page (addrOf w + v % sizeOf z) (record { 0 = flagsOf w }) z) (O .size)
-          ∙ ap (λ (n : ℕ). query.Page (addrOf w + v % n) (record { 0 = flagsOf w }) (sizeAt (O .l))) (span-size (O .l) (O .low))
+          ∙ ap (λ (n : ℕ). query.Page (addrOf w + v % n) (record { 0 = flagsOf w }) (sizeAt (O .l))) (size-bytes (O .l) (O .low))
           ∙ sym (ap (asQuery v) s ∙ as-by v (O .l) w leaf (O .kind))
       go (Open o) q =
           let U = walks.unused p (base / 4096) used (G .formed) v o q in

@@ -55,6 +55,7 @@ fn clear(pool: &mut [u64], base: u64, used: usize, start: VirtAddr, end: VirtAdd
     }
 }
 
+// Removes whatever is mapped in the `size` bytes from `vaddr` on; of a leaf that is cut the rest is kept.
 pub fn unmap_cont(
     pool: &mut [u64],
     base: u64,

@@ -1,40 +1,42 @@
--- `is_range_in_rule`: the part that the start lies in, and what is left of it.
-use Prim.Native.Nat.{_-_, _^_}
-use mathlib.Core.Path.{sym, _∙_}
+-- `is_range_in_rule`: the start, and what is left of its part.
+use Prim.Native.Nat.{ℕ, _-_, _≤_}
+use mathlib.Core.Path.{_≡_, sym, ap, _∙_}
+use mathlib.Core.Bool.{true}
 use native.Mathlib.Omega.{arith}
+use lib.Dec.{leb}
 use borrow.Author.Needs.{needs}
-use borrow.Author.Tests.{lt-ltb, le-ltb}
-use Rattle.generic_page_table.proofs.Rules.{by-rest, range-lower, range-upper, range-out}
+use borrow.Author.Tests.{not-true, not-false}
+use Rattle.page_table.specs.Calls.{inRule}
+use Rattle.generic_page_table.specs.Rules.{ruleEnd}
+use Rattle.generic_page_table.proofs.Rules.{by-rest, before-end, range-in, range-out}
 use Rattle.generic_page_table.proofs.is_range_in_rule.Statement.{statement}
 use Rattle.generic_page_table.proofs.is_range_in_rule.Tie as tie
 
-sub-result : tie.Need-sub-result
-sub-result c = search needs
+-- the start passes
+ruled : (k : tie.Else1) → inRule (k .before .before .args .vaddr) ≡ true
+ruled k = sym (k .before .is-in-rule .ensures) ∙ not-false _ (k .if1 .left)
+
+is-in-rule-requires : tie.Need-is-in-rule-requires
+is-in-rule-requires c κs = search needs
 
 returns : tie.Need-returns
 returns c =
-    let a = c .before .args in
-    by-rest (a .vaddr) (a .size) (2 ^ 47) (omega (arith, c .if1 .taken)) ∙ sym (range-lower (a .vaddr) (a .size) (c .if1 .taken))
+    let a = c .before .before .args in
+    sym (range-out (a .vaddr) (a .size) (sym (c .before .is-in-rule .ensures) ∙ not-true _ (c .if1 .taken)))
+
+rule-end-requires : tie.Need-rule-end-requires
+rule-end-requires c κs = search needs
+
+sub-result : tie.Need-sub-result
+sub-result c = omega (arith, c .rule-end .ensures, before-end (c .before .before .before .args .vaddr) (ruled (c .before)))
 
 returns-2 : tie.Need-returns-2
 returns-2 c =
-    let a = c .before .before .args in
-    sym (range-out (a .vaddr) (a .size) (rw (le-ltb (a .vaddr) (2 ^ 47) (c .before .if1 .left), lt-ltb (a .vaddr) 0xffff800000000000 (c .if2 .taken))))
-
-returns-3 : tie.Need-returns-3
-returns-3 c =
     let a = c .before .before .before .args in
-    sym (range-out (a .vaddr) (a .size)
-    (rw (le-ltb (a .vaddr) (2 ^ 47) (c .before .before .if1 .left), le-ltb (a .vaddr) 0xffff800000000000 (c .before .if2 .left), le-ltb (a .vaddr) 0xffffffffc0000000 (c .if3 .taken))))
-
-sub-result-2 : tie.Need-sub-result-2
-sub-result-2 c = search needs
-
-returns-4 : tie.Need-returns-4
-returns-4 c =
-    let a = c .before .before .before .args in
-    by-rest (a .vaddr) (a .size) 0xffffffffc0000000 (omega (arith, c .if3 .left)) ∙ sym (range-upper (a .vaddr) (a .size) (c .before .if2 .left) (c .if3 .left))
+    ap (λ (n : ℕ). leb (a .size) (n - a .vaddr)) (c .rule-end .ensures)
+    ∙ by-rest (a .vaddr) (a .size) (ruleEnd (a .vaddr)) (before-end (a .vaddr) (ruled (c .before)))
+    ∙ sym (range-in (a .vaddr) (a .size) (ruled (c .before)))
 
 pub is-range-in-rule-spec : {M : Type 1} → statement M
 is-range-in-rule-spec =
-    tie.close (tie.spec sub-result returns returns-2 returns-3 sub-result-2 returns-4)
+    tie.close (tie.spec is-in-rule-requires returns rule-end-requires sub-result returns-2)

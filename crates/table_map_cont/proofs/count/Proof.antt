@@ -7,7 +7,7 @@ use borrow.Author.Needs.{needs}
 use Rattle.paging.specs.Level.{span}
 use Rattle.common.specs.Page.{sizeOf}
 use Rattle.form.specs.Form.{Good}
-use Rattle.table_laws.proofs.Effects.{size-bytes}
+use Rattle.walk.proofs.Sizes.{size-bytes}
 use Rattle.table_map_cont.specs.Count.{begins, counted}
 use Rattle.table_map_cont.proofs.Heights.{Fits}
 use Rattle.table_map_cont.proofs.Pages.{span-page, range-below}

@@ -8,7 +8,7 @@ use borrow.Author.Needs.{needs}
 use borrow.Author.Tests.{not-true, not-false, le-leb, lt-leb}
 use Rattle.paging.specs.Level.{span}
 use Rattle.common.specs.Page.{sizeOf}
-use Rattle.table_laws.proofs.Effects.{size-bytes}
+use Rattle.walk.proofs.Sizes.{size-bytes}
 use Rattle.table_map_cont.proofs.is_fit.Statement.{statement}
 use Rattle.table_map_cont.proofs.is_fit.Tie as tie
 

@@ -10,7 +10,7 @@ use Rattle.common.specs.Page.{sizeOf}
 use Rattle.common.specs.declared.vm.PageSize.{PageSize}
 use Rattle.walk.specs.Walk.{sizeAt}
 use Rattle.table_map.specs.Map.{mapped, Mapping}
-use Rattle.table_laws.proofs.Effects.{size-bytes}
+use Rattle.walk.proofs.Sizes.{size-bytes}
 use Rattle.table_map_cont.specs.MapCont.{pages}
 use Rattle.table_map_cont.proofs.Heights.{Fits}
 use Rattle.table_map_cont.proofs.Pages.{span-page, range-below}
