@@ -1,0 +1,91 @@
+// The space: who owns which addresses. Slots hold plain records; regions and mappings name the region that they belong to by its slot, and two
+// lists of slots keep the order in which the Rust's `children` and `mappings` stand. specs/Space draws it.
+use common::defs::VirtAddr;
+ghost use mathlib.Core.Path.{_≡_};
+ghost use Prim.Native.Nat.{_+_};
+ghost use lib.Dec.{leb};
+ghost use Rattle.space.specs.Range.{overlap, inside, contains};
+
+pub const REGIONS: usize = 32;
+
+pub const MAPPINGS: usize = 64;
+
+// Bytes of page flags that are lent: 512 for each mapping slot.
+pub const FLAGS: usize = 32768;
+
+// The parent of the root.
+pub const NO_REGION: usize = 32;
+
+// A slot is free or holds a live region.
+pub struct Region {
+    pub live: bool,
+    pub id: u64,
+    pub addr: VirtAddr,
+    pub size: u64,
+    pub flags: u64,
+    pub parent: usize,
+}
+
+// A slot is free or holds a live mapping: a range of a VMO at a range of addresses. Its page flags stand in the slot's 512 lent bytes.
+pub struct Mapping {
+    pub live: bool,
+    pub region: usize,
+    pub addr: VirtAddr,
+    pub size: u64,
+    pub vmo: u64,
+    pub offset: u64,
+    pub permissions: u64,
+}
+
+pub struct Space {
+    pub regions: [Region; 32],
+    pub mappings: [Mapping; 64],
+    // Slots of live regions in the order of their making; 0 past the count.
+    pub reglist: [usize; 32],
+    pub regcount: usize,
+    // Slots of live mappings in the order of their making; 0 past the count.
+    pub maplist: [usize; 64],
+    pub mapcount: usize,
+    // The id of the next region.
+    pub nextid: u64,
+}
+
+// Whether x + y is at most z, whatever the sum.
+pub fn sum_le(x: u64, y: u64, z: u64) -> bool
+    ensures { λ r. ⌜ r ≡ leb (x + y) z ⌝ }
+{
+    if z < y {
+        return false;
+    }
+    x <= z - y
+}
+
+// Whether [addr, addr + size) and [begin, begin + len) overlap, as the Rust's `overlap`.
+pub fn overlap(addr: VirtAddr, size: u64, begin: VirtAddr, len: u64) -> bool
+    ensures { λ r. ⌜ r ≡ overlap addr size begin len ⌝ }
+{
+    if sum_le(begin, len, addr) {
+        return false;
+    }
+    !sum_le(addr, size, begin)
+}
+
+// Whether [addr, addr + size) lies inside [begin, begin + len), as the Rust's `within`: ends may meet.
+pub fn within(addr: VirtAddr, size: u64, begin: VirtAddr, len: u64) -> bool
+    ensures { λ r. ⌜ r ≡ inside addr size begin len ⌝ }
+{
+    if addr < begin {
+        return false;
+    }
+    sum_le(addr - begin, size, len)
+}
+
+// Whether [addr, addr + size) holds the address, as the Rust's `contains`.
+pub fn contains(addr: VirtAddr, size: u64, vaddr: VirtAddr) -> bool
+    ensures { λ r. ⌜ r ≡ contains addr size vaddr ⌝ }
+{
+    if vaddr < addr {
+        return false;
+    }
+    vaddr - addr < size
+}
