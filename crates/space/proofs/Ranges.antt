@@ -1,5 +1,5 @@
 -- What the tests of ranges say.
-use Prim.Native.Nat.{ℕ, _+_, _-_, _≤_, _<_}
+use Prim.Native.Nat.{ℕ, _+_, _-_, _^_, _≤_, _<_}
 use mathlib.Core.Path.{_≡_, refl, sym, _∙_}
 use mathlib.Core.Bool.{Bool, true, false, not}
 use mathlib.Core.Logic.{_⊎_, inl, inr, ⊎-elim}
@@ -43,3 +43,10 @@ holds a n x e = ⊎-elim (λ (l : x < a). no-truth (simp (lt-ltb x a l) at e)) (
 pub holds-of : (a n x : ℕ) → a ≤ x → x < a + n → contains a n x ≡ true
 unfolding contains
 holds-of a n x l h = simp (le-ltb x a l) (lt-ltb (x - a) n (omega arith))
+
+-- a sum that is at most 2 ^ 64 - 1 does not overflow, and one that is more does
+pub sum-fits : (x y : ℕ) → leb (x + y) 0xffff_ffff_ffff_ffff ≡ true → x + y < 2 ^ 64
+sum-fits x y e = omega (arith, leb-true (x + y) 0xffff_ffff_ffff_ffff e)
+
+pub sum-over : (x y : ℕ) → leb (x + y) 0xffff_ffff_ffff_ffff ≡ false → x + y < 2 ^ 64 → ⊥
+sum-over x y e l = omega (arith, leb-false (x + y) 0xffff_ffff_ffff_ffff e)
