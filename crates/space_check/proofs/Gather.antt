@@ -39,8 +39,8 @@ nothing P = record { to = λ e. below-none P; from = λ all. refl }
 
 pub more : (P : ℕ → Type 0) (d e j : ℕ) → Gathered P d j → (e ≡ 0 → P j) → (P j → e ≡ 0) → Gathered P (bitOr d e) (j + 1)
 more P d e j g to from = record {
-    to = λ z. below-more P j (g .to (or-left d e z)) (to (or-right d e z));
-    from = λ all. or-of d e (g .from (λ k l. all k (omega arith))) (from (all j (omega arith)));
+  to = λ z. below-more P j (g .to (or-left d e z)) (to (or-right d e z));
+  from = λ all. or-of d e (g .from (λ k l. all k (omega arith))) (from (all j (omega arith)));
 }
 
 pub gathered : (P : ℕ → Type 0) (d j n : ℕ) → j ≤ n → n ≤ j → Gathered P d j → Decided ((k : ℕ) → k < n → P k) (eqb d 0)
@@ -52,9 +52,10 @@ pub others-are : (p : ℕ) → bitAnd p 0x60 ≡ others p
 others-are p = and-high p 2 5 ∙ omega arith
 
 pub page-to : (p b : ℕ) → bitOr (bitXor (bitAnd p 0x7c) p) (bitXor (bitAnd p 0x60) b) ≡ 0 → (knownPage p ≡ true) × (others p ≡ b)
-page-to p b e =
-    (eq-eqb (ofFive p) p (sym (five p) ∙ xor-same (bitAnd p 0x7c) p (or-left (bitXor (bitAnd p 0x7c) p) (bitXor (bitAnd p 0x60) b) e)),
-    sym (others-are p) ∙ xor-same (bitAnd p 0x60) b (or-right (bitXor (bitAnd p 0x7c) p) (bitXor (bitAnd p 0x60) b) e))
+page-to p b e = (
+  eq-eqb (ofFive p) p (sym (five p) ∙ xor-same (bitAnd p 0x7c) p (or-left (bitXor (bitAnd p 0x7c) p) (bitXor (bitAnd p 0x60) b) e)),
+  sym (others-are p) ∙ xor-same (bitAnd p 0x60) b (or-right (bitXor (bitAnd p 0x7c) p) (bitXor (bitAnd p 0x60) b) e),
+)
 
 pub page-from : (p b : ℕ) → (knownPage p ≡ true) × (others p ≡ b) → bitOr (bitXor (bitAnd p 0x7c) p) (bitXor (bitAnd p 0x60) b) ≡ 0
 page-from p b h =

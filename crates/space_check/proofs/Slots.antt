@@ -14,11 +14,11 @@ use Rattle.space_check.specs.Clauses.{Places, GoodRegion, RegionSlot, Go
 -- the parent's record matters only where the parent is a slot
 other : {g p q : Region} {n : ℕ} → (g .parent < 32 → p ≡ q) → GoodRegion g p n → GoodRegion g q n
 other {g} same r = record {
-    known = r .known;
-    issued = r .issued;
-    slot = r .slot;
-    range = r .range;
-    inner = λ e. subst (λ (x : Region). inside (g .addr) (g .size) (x .addr) (x .size) ≡ true) (same (below (r .slot) e)) (r .inner e);
+  known = r .known;
+  issued = r .issued;
+  slot = r .slot;
+  range = r .range;
+  inner = λ e. subst (λ (x : Region). inside (g .addr) (g .size) (x .addr) (x .size) ≡ true) (same (below (r .slot) e)) (r .inner e);
 }
   where
     below : g .parent ≤ 32 → (g .parent ≡ 32 → ⊥) → g .parent < 32
@@ -37,9 +37,9 @@ other-region same r = record { listed = r .listed; good = λ l. same-region same
 module _ (flags : List ℕ) (i pages : ℕ) (few : pages ≤ 512) where
   pub pages-to : AllAlike flags (i * 512) pages (others (getD flags (i * 512) 0)) → AllZero flags (i * 512 + pages) (512 - pages) → Pages flags i pages
   pages-to a z = record {
-      known = λ j l. a j l .0;
-      alike = λ j l. a j l .1 ∙ ap (λ (k : ℕ). others (getD flags k 0)) (sym (first i));
-      past = λ j l h. subst (λ (k : ℕ). getD flags k 0 ≡ 0) (place j l) (z (j - pages) (omega arith));
+    known = λ j l. a j l .0;
+    alike = λ j l. a j l .1 ∙ ap (λ (k : ℕ). others (getD flags k 0)) (sym (first i));
+    past = λ j l h. subst (λ (k : ℕ). getD flags k 0 ≡ 0) (place j l) (z (j - pages) (omega arith));
   }
     where
       first : (k : ℕ) → k * 512 + 0 ≡ k * 512
@@ -49,9 +49,10 @@ module _ (flags : List ℕ) (i pages : ℕ) (few : pages ≤ 512) where
       place j l = omega arith
 
   pub pages-from : Pages flags i pages → AllAlike flags (i * 512) pages (others (getD flags (i * 512) 0)) × AllZero flags (i * 512 + pages) (512 - pages)
-  pages-from p =
-      (λ j l. (p .known j l, p .alike j l ∙ ap (λ (k : ℕ). others (getD flags k 0)) (first i)),
-      λ j l. subst (λ (k : ℕ). getD flags k 0 ≡ 0) (place j) (p .past (pages + j) (omega arith) (omega arith)))
+  pages-from p = (
+    λ j l. (p .known j l, p .alike j l ∙ ap (λ (k : ℕ). others (getD flags k 0)) (first i)),
+    λ j l. subst (λ (k : ℕ). getD flags k 0 ≡ 0) (place j) (p .past (pages + j) (omega arith) (omega arith)),
+  )
     where
       first : (k : ℕ) → k * 512 + 0 ≡ k * 512
       first k = omega arith

@@ -1,5 +1,5 @@
 -- The clauses of the check are the phrases of `Passes`.
-use Prim.Native.Nat.{ℕ, _≤_, _<_}
+use Prim.Native.Nat.{ℕ, _/_, _≤_, _<_}
 use mathlib.Core.Path.{_≡_, refl, sym, _∙_, ap, subst}
 use mathlib.Core.Bool.{Bool, true, false}
 use mathlib.Core.List.{List}
@@ -9,22 +9,22 @@ use lib.ListN.{length, getD}
 use Rattle.paging.proofs.Cases.{same?}
 use Rattle.space.specs.Space.{regionAt, mappingAt, isRegion, isMapping, regionPlace, blankRegion, blankMapping}
 use Rattle.space.specs.Passes.{In, Listed, Tree, Inside, Apart, Known, Ids, Blank, RootRange, Passes}
-use Rattle.space.specs.declared.Region.{Region}
+use Rattle.space.specs.declared.Mapping.{Mapping}
 use Rattle.space.specs.declared.Space.{Space}
 use Rattle.space.proofs.Tests.{clash}
-use Rattle.space_check.specs.Clauses.{Places, GoodRegions, GoodMappings, BothClear}
+use Rattle.space_check.specs.Clauses.{Places, MappingSlots, GoodRegions, GoodMappings, BothClear}
 
 -- a list, by its places and by what its slots say
 module _ {n : ℕ} {list : List ℕ} {count : ℕ} {lives : ℕ → Bool} (size : length list ≡ n) where
   pub listed : Places list count → ((i : ℕ) → i < n → lives i ≡ true → In list count i) → ((i : ℕ) → i < n → lives i ≡ false → In list count i → ⊥)
       → Listed n list count lives
   listed p h u = record {
-      room = rw size at p .room;
-      slot = λ k l. rw size at p .slot k l;
-      once = λ j k l h e. p .once k h (j, l, e);
-      rest = λ k l h. p .rest k l (rw size h);
-      live = λ i l m. alive i l m (lives i) refl;
-      whole = h;
+    room = let z = p .room in omega arith;
+    slot = λ k l. let z = p .slot k l in omega arith;
+    once = λ j k l h e. p .once k h (j, l, e);
+    rest = λ k l h. p .rest k l (omega arith);
+    live = λ i l m. alive i l m (lives i) refl;
+    whole = h;
   }
     where
       alive : (i : ℕ) → i < n → In list count i → (b : Bool) → lives i ≡ b → lives i ≡ true
@@ -33,38 +33,38 @@ module _ {n : ℕ} {list : List ℕ} {count : ℕ} {lives : ℕ → Bool} (size 
 
   pub placed : Listed n list count lives → Places list count
   placed p = record {
-      room = rw size (p .room);
-      slot = λ k l. rw size (p .slot k l);
-      once = λ k l m. p .once (m .0) k (m .1) l (m .2);
-      rest = λ k l h. p .rest k l (rw size at h);
+    room = let z = p .room in omega arith;
+    slot = λ k l. let z = p .slot k l in omega arith;
+    once = λ k l m. p .once (m .0) k (m .1) l (m .2);
+    rest = λ k l h. p .rest k l (omega arith);
   }
 
 module _ {s : Space} {flags : List ℕ} (32-long : length (s .reglist) ≡ 32) (64-long : length (s .maplist) ≡ 64) where
   pub whole : GoodRegions s → GoodMappings s flags → BothClear s → Passes s flags
   whole r m b = record {
-      lent = m .lent;
-      regions = regions;
-      mappings = listed 64-long (m .places) (λ i l. m .slots i l .listed) (λ i l. m .slots i l .unlisted);
-      tree = record {
-          root = λ k l. r .tree k l .root;
-          range = λ k l e. r .slots (regionPlace s k) (regions .slot k l) .good (regions .live (regionPlace s k) (regions .slot k l) (k, l, refl)) .range e;
-          parent = λ k l. r .tree k l .below;
-      };
-      inner = record {
-          child = λ i l a. r .slots i l .good a .inner;
-          region = λ i l a. (m .slots i l .good a .slot, m .slots i l .good a .live);
-          mapping = λ i l a. m .slots i l .good a .inner;
-      };
-      apart = record {
-          children = λ i j l h a c. r .clear i h j l .apart a c;
-          mappings = λ i j l h. m .clear i h j l;
-          both = λ i j l h. b i l j h;
-      };
-      paged = λ i l a. m .slots i l .good a .paged;
-      pages = m .pages;
-      known = record { region = λ i l a. r .slots i l .good a .known; mapping = λ i l a. m .slots i l .good a .known };
-      ids = record { most = r .most; issued = λ i l a. r .slots i l .good a .issued; distinct = λ i j l h a c. r .clear i h j l .ids a c };
-      blank = record { region = λ i l. r .slots i l .blank; mapping = λ i l. m .slots i l .blank };
+    lent = m .lent;
+    regions = regions;
+    mappings = listed 64-long (m .places) (λ i l. m .slots i l .listed) (λ i l. m .slots i l .unlisted);
+    tree = record {
+      root = λ k l. r .tree k l .root;
+      range = λ k l e. r .slots (regionPlace s k) (regions .slot k l) .good (regions .live (regionPlace s k) (regions .slot k l) (k, l, refl)) .range e;
+      parent = λ k l. r .tree k l .below;
+    };
+    inner = record {
+      child = λ i l a. r .slots i l .good a .inner;
+      region = λ i l a. (m .slots i l .good a .slot, m .slots i l .good a .live);
+      mapping = λ i l a. m .slots i l .good a .inner;
+    };
+    apart = record {
+      children = λ i j l h a c. r .clear i h j l .apart a c;
+      mappings = λ i j l h. m .clear i h j l;
+      both = λ i j l h. b i l j h;
+    };
+    paged = λ i l a. m .slots i l .good a .paged;
+    pages = m .pages;
+    known = record { region = λ i l a. r .slots i l .good a .known; mapping = λ i l a. m .slots i l .good a .known };
+    ids = record { most = r .most; issued = λ i l a. r .slots i l .good a .issued; distinct = λ i j l h a c. r .clear i h j l .ids a c };
+    blank = record { region = λ i l. r .slots i l .blank; mapping = λ i l. m .slots i l .blank };
   }
     where
       regions : Listed 32 (s .reglist) (s .regcount) (isRegion s)
@@ -72,22 +72,22 @@ module _ {s : Space} {flags : List ℕ} (32-long : length (s .reglist) ≡ 32) (
 
   pub regions-of : Passes s flags → GoodRegions s
   regions-of p = record {
-      most = p .ids .most;
-      places = placed 32-long (p .regions);
-      slots = λ i l. record {
-          listed = p .regions .whole i l;
-          good = λ a. record {
-              known = p .known .region i l a;
-              issued = p .ids .issued i l a;
-              slot = parent-slot i (p .regions .whole i l a);
-              range = range i (p .regions .whole i l a);
-              inner = p .inner .child i l a;
-          };
-          unlisted = λ n m. clash _ (p .regions .live i l m) n;
-          blank = p .blank .region i l;
+    most = p .ids .most;
+    places = placed 32-long (p .regions);
+    slots = λ i l. record {
+      listed = p .regions .whole i l;
+      good = λ a. record {
+        known = p .known .region i l a;
+        issued = p .ids .issued i l a;
+        slot = parent-slot i (p .regions .whole i l a);
+        range = range i (p .regions .whole i l a);
+        inner = p .inner .child i l a;
       };
-      tree = λ k l. record { root = p .tree .root k l; below = p .tree .parent k l };
-      clear = λ i h j l. record { ids = p .ids .distinct i j l h; apart = p .apart .children i j l h };
+      unlisted = λ n m. clash _ (p .regions .live i l m) n;
+      blank = p .blank .region i l;
+    };
+    tree = λ k l. record { root = p .tree .root k l; below = p .tree .parent k l };
+    clear = λ i h j l. record { ids = p .ids .distinct i j l h; apart = p .apart .children i j l h };
   }
     where
       range : (i : ℕ) → In (s .reglist) (s .regcount) i → regionAt s i .parent ≡ 32 → RootRange (regionAt s i .addr) (regionAt s i .size)
@@ -111,23 +111,31 @@ module _ {s : Space} {flags : List ℕ} (32-long : length (s .reglist) ≡ 32) (
 
   pub mappings-of : Passes s flags → GoodMappings s flags
   mappings-of p = record {
-      lent = p .lent;
-      places = placed 64-long (p .mappings);
-      slots = λ i l. record {
-          listed = p .mappings .whole i l;
-          good = λ a. record {
-              slot = p .inner .region i l a .0;
-              live = p .inner .region i l a .1;
-              inner = p .inner .mapping i l a;
-              paged = p .paged i l a;
-              known = p .known .mapping i l a;
-          };
-          unlisted = λ n m. clash _ (p .mappings .live i l m) n;
-          blank = p .blank .mapping i l;
+    lent = p .lent;
+    places = placed 64-long (p .mappings);
+    slots = λ i l. record {
+      listed = p .mappings .whole i l;
+      good = λ a. record {
+        slot = p .inner .region i l a .0;
+        live = p .inner .region i l a .1;
+        inner = p .inner .mapping i l a;
+        paged = p .paged i l a;
+        known = p .known .mapping i l a;
       };
-      clear = λ i h j l. p .apart .mappings i j l h;
-      pages = p .pages;
+      unlisted = λ n m. clash _ (p .mappings .live i l m) n;
+      blank = p .blank .mapping i l;
+    };
+    clear = λ i h j l. p .apart .mappings i j l h;
+    pages = p .pages;
   }
 
   pub both-of : Passes s flags → BothClear s
   both-of p = λ i l j h. p .apart .both i j l h
+
+-- a slot has at most 512 pages, a free one none
+pub few : (s : Space) → MappingSlots s → (i : ℕ) → i < 64 → mappingAt s i .size / 4096 ≤ 512
+few s m i l = by (mappingAt s i .live) refl
+  where
+    by : (b : Bool) → mappingAt s i .live ≡ b → mappingAt s i .size / 4096 ≤ 512
+    by true e = m i l .good e .paged .few
+    by false e = let z = ap (λ (x : Mapping). x .size) (m i l .blank e) in omega arith

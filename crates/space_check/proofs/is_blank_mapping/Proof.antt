@@ -36,13 +36,13 @@ returns-7 c =
     let if4 = c .before .before .before .before .before .if4 in
     decide (a .m ≡ blankMapping) (eqb (a .m .permissions) 0)
     (λ (e : eqb (a .m .permissions) 0 ≡ true). λ i. record {
-        live = if1 .left i;
-        region = if2 .left i;
-        addr = if3 .left i;
-        size = if4 .left i;
-        vmo = c .before .before .before .if5 .left i;
-        offset = c .before .if6 .left i;
-        permissions = eqb-true (a .m .permissions) 0 e i;
+      live = if1 .left i;
+      region = if2 .left i;
+      addr = if3 .left i;
+      size = if4 .left i;
+      vmo = c .before .before .before .if5 .left i;
+      offset = c .before .if6 .left i;
+      permissions = eqb-true (a .m .permissions) 0 e i;
     })
     (λ e. eq-eqb _ _ (ap (λ (x : Mapping). x .permissions) e))
 

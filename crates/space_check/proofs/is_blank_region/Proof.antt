@@ -32,12 +32,12 @@ returns-6 c =
     let if3 = c .before .before .before .before .before .if3 in
     decide (a .g ≡ blankRegion) (eqb (a .g .parent) 0)
     (λ (e : eqb (a .g .parent) 0 ≡ true). λ i. record {
-        live = if1 .left i;
-        id = if2 .left i;
-        addr = if3 .left i;
-        size = c .before .before .before .if4 .left i;
-        flags = c .before .if5 .left i;
-        parent = eqb-true (a .g .parent) 0 e i;
+      live = if1 .left i;
+      id = if2 .left i;
+      addr = if3 .left i;
+      size = c .before .before .before .if4 .left i;
+      flags = c .before .if5 .left i;
+      parent = eqb-true (a .g .parent) 0 e i;
     })
     (λ e. eq-eqb _ _ (ap (λ (x : Region). x .parent) e))
 

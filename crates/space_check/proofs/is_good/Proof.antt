@@ -1,35 +1,51 @@
+-- `is_good`: the clauses are the phrases.
+use mathlib.Core.Path.{_≡_}
+use lib.ListN.{length}
+use denote.Ref.{now}
+use borrow.Author.Tests.{not-true, not-false}
+use Rattle.paging.proofs.Cases.{decided-true, decided-false}
+use Rattle.space.specs.Passes.{Passes}
+use Rattle.space.proofs.Tests.{decide-by}
+use Rattle.space_check.specs.Clauses.{BothClear}
+use Rattle.space_check.proofs.Whole.{whole, regions-of, mappings-of, both-of}
 use borrow.Author.Needs.{needs}
 use Rattle.space_check.proofs.is_good.Statement.{statement}
 use Rattle.space_check.proofs.is_good.Tie as tie
-use Rattle.space_check.proofs.is_good.Reads as reads
-use Rattle.space_check.proofs.is_good.Lts as lts
-use Rattle.space_check.proofs.are_both_clear.Reads as are-both-clear-reads
-use Rattle.space_check.proofs.are_mappings_good.Reads as are-mappings-good-reads
-use Rattle.space_check.proofs.are_regions_good.Reads as are-regions-good-reads
 
--- src/lib.rt:497:9
 are-regions-good-requires : tie.Need-are-regions-good-requires
 are-regions-good-requires c κs = search needs
 
--- src/lib.rt:498:9
 returns : tie.Need-returns
-returns c = ?
+returns c =
+    let r : length (c .before .before .before .args .s .reglist) ≡ 32 = search needs in
+    let m : length (c .before .before .before .args .s .maplist) ≡ 64 = search needs in
+    λ p. decided-false _ (c .before .are-regions-good .result) (c .before .are-regions-good .ensures) (not-true _ (c .if1 .taken)) (regions-of r m p)
 
--- src/lib.rt:500:9
 are-mappings-good-requires : tie.Need-are-mappings-good-requires
 are-mappings-good-requires c κs = search needs
 
--- src/lib.rt:501:9
 returns-2 : tie.Need-returns-2
-returns-2 c = ?
+returns-2 c =
+    let a = c .before .before .before .before .before .args in
+    let r : length (a .s .reglist) ≡ 32 = search needs in
+    let m : length (a .s .maplist) ≡ 64 = search needs in
+    λ p. decided-false _ (c .before .are-mappings-good .result) (c .before .are-mappings-good .ensures) (not-true _ (c .if2 .taken)) (mappings-of r m p)
 
--- src/lib.rt:503:5
 are-both-clear-requires : tie.Need-are-both-clear-requires
 are-both-clear-requires c κs = search needs
 
--- src/lib.rt:494:1
 returns-3 : tie.Need-returns-3
-returns-3 c = ?
+returns-3 c =
+    let a = c .before .before .before .before .before .before .args in
+    let are-regions-good = c .before .before .before .before .are-regions-good in
+    let r : length (a .s .reglist) ≡ 32 = search needs in
+    let m : length (a .s .maplist) ≡ 64 = search needs in
+    decide-by (Passes (a .s) (now (a .flags))) (BothClear (a .s)) (c .are-both-clear .result)
+    (whole r m
+    (decided-true _ (are-regions-good .result) (are-regions-good .ensures) (not-false _ (c .before .before .before .if1 .left)))
+    (decided-true _ (c .before .before .are-mappings-good .result) (c .before .before .are-mappings-good .ensures) (not-false _ (c .before .if2 .left))))
+    (both-of r m)
+    (c .are-both-clear .ensures)
 
 pub is-good-spec : {M : Type 1} → statement M
 is-good-spec =

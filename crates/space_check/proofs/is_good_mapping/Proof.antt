@@ -61,11 +61,11 @@ returns-10 c =
     let if6 = c .before .before .before .before .before .before .before .if6 in
     decide _ _
     (λ e. record {
-        slot = if1 .left;
-        live = not-false _ (if2 .left);
-        inner = sym (within .ensures) ∙ not-false _ (if3 .left);
-        paged = record { addr = if4 .left; size = if5 .left; offset = if6 .left; end = sum-fits _ _ (sym (sum-le .ensures) ∙ not-false _ (if7 .left)); vmo-end = sum-fits _ _ (sym (sum-le2 .ensures) ∙ not-false _ (c .before .before .before .if8 .left)); few = c .before .if9 .left };
-        known = sym (c .is-known .ensures) ∙ e;
+      slot = if1 .left;
+      live = not-false _ (if2 .left);
+      inner = sym (within .ensures) ∙ not-false _ (if3 .left);
+      paged = record { addr = if4 .left; size = if5 .left; offset = if6 .left; end = sum-fits _ _ (sym (sum-le .ensures) ∙ not-false _ (if7 .left)); vmo-end = sum-fits _ _ (sym (sum-le2 .ensures) ∙ not-false _ (c .before .before .before .if8 .left)); few = c .before .if9 .left };
+      known = sym (c .is-known .ensures) ∙ e;
     })
     (λ g. c .is-known .ensures ∙ g .known)
 

@@ -28,11 +28,11 @@ returns-3 c =
     let a = c .before .before .before .before .before .before .before .args in
     decide-by (GoodRegion (a .g) (a .p) (a .nextid)) (RootRange (a .g .addr) (a .g .size)) (c .is-root-range .result)
     (λ d. record {
-        known = sym (is-known .ensures) ∙ not-false _ (if1 .left);
-        issued = omega arith;
-        slot = omega arith;
-        range = λ e. d;
-        inner = λ e. absurd (e (c .before .if3 .taken));
+      known = sym (is-known .ensures) ∙ not-false _ (if1 .left);
+      issued = omega arith;
+      slot = omega arith;
+      range = λ e. d;
+      inner = λ e. absurd (e (c .before .if3 .taken));
     })
     (λ g. g .range (c .before .if3 .taken))
     (c .is-root-range .ensures)
@@ -50,11 +50,11 @@ returns-5 c =
     let a = c .before .before .before .before .before .before .before .before .before .args in
     decide (GoodRegion (a .g) (a .p) (a .nextid)) (c .within .result)
     (λ e. record {
-        known = sym (is-known .ensures) ∙ not-false _ (if1 .left);
-        issued = omega arith;
-        slot = omega arith;
-        range = λ z. absurd (c .before .before .before .if3 .left z);
-        inner = λ z. sym (c .within .ensures) ∙ e;
+      known = sym (is-known .ensures) ∙ not-false _ (if1 .left);
+      issued = omega arith;
+      slot = omega arith;
+      range = λ z. absurd (c .before .before .before .if3 .left z);
+      inner = λ z. sym (c .within .ensures) ∙ e;
     })
     (λ g. c .within .ensures ∙ g .inner (c .before .before .before .if3 .left))
 
