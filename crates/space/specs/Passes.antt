@@ -111,3 +111,10 @@ pub record Passes (s : Space) (flags : List ℕ) : Type 0 where
   pub known : Known s
   pub ids : Ids s
   pub blank : Blank s
+
+-- slot r holds a live region of a space that passes its check
+pub record LiveIn (s : Space) (r : ℕ) : Type 0 where
+  pub slot : r < 32
+  pub live : isRegion s r ≡ true
+  pub flags : List ℕ
+  pub passes : Passes s flags

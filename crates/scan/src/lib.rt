@@ -1,0 +1,1 @@
+// Scans of index ranges: definitions and laws, no code.

@@ -1,0 +1,176 @@
+// zircon-object/src/vm/vmar.rs: `determine_offset`, `find_free_area` and `test_map`, on a space that passes its check; and the region of an id.
+use refusal::Refusal;
+use space::MAPPINGS;
+use space::Mapping;
+use space::REGIONS;
+use space::Region;
+use space::Space;
+ghost use mathlib.Core.Path.{_≡_};
+ghost use Rattle.space.specs.Passes.{LiveIn};
+ghost use Rattle.vmar_offset.specs.Offset.{hasId, slotOf, childMeets, mappingMeets, testMap, findFreeArea, determineOffset};
+
+// An offset into a region, or none: the Rust's `Option<usize>`.
+pub enum Offset {
+    Some(u64),
+    None,
+}
+
+pub enum OffsetResult {
+    Ok(u64),
+    Refused(Refusal),
+}
+
+// Whether g is the live region of this id.
+fn has_id(g: Region, id: u64) -> bool
+    ensures { λ x. ⌜ x ≡ hasId g id ⌝ }
+{
+    if !g.live {
+        return false;
+    }
+    g.id == id
+}
+
+// The slot of the live region of this id, 32 where there is none.
+pub fn slot_of(s: Space, id: u64) -> usize
+    ensures { λ r. ⌜ r ≡ slotOf s id ⌝ }
+{
+    let mut i = 0;
+    while i < REGIONS {
+        let g = s.regions[i];
+        if has_id(g, id) {
+            return i;
+        }
+        i += 1;
+    }
+    i
+}
+
+// Whether g is a child of region r that overlaps the range.
+fn child_meets(g: Region, r: usize, begin: u64, len: u64) -> bool
+    ensures { λ x. ⌜ x ≡ childMeets g r begin len ⌝ }
+{
+    if !g.live {
+        return false;
+    }
+    if g.parent != r {
+        return false;
+    }
+    space::overlap(g.addr, g.size, begin, len)
+}
+
+fn mapping_meets(m: Mapping, r: usize, begin: u64, len: u64) -> bool
+    ensures { λ x. ⌜ x ≡ mappingMeets m r begin len ⌝ }
+{
+    if !m.live {
+        return false;
+    }
+    if m.region != r {
+        return false;
+    }
+    space::overlap(m.addr, m.size, begin, len)
+}
+
+// Whether something of this length can be made at the offset of region r.
+pub fn test_map(s: Space, r: usize, offset: u64, len: u64) -> bool
+    requires { ⌜ LiveIn s r ⌝ }
+    ensures { λ x. ⌜ x ≡ testMap s r offset len ⌝ }
+{
+    let g = s.regions[r];
+    if !space::sum_le(offset, len, g.size) {
+        return false;
+    }
+    let begin = g.addr + offset;
+    let mut i = 0;
+    while i < REGIONS {
+        let child = s.regions[i];
+        if child_meets(child, r, begin, len) {
+            return false;
+        }
+        i += 1;
+    }
+    let mut j = 0;
+    while j < MAPPINGS {
+        let m = s.mappings[j];
+        if mapping_meets(m, r, begin, len) {
+            return false;
+        }
+        j += 1;
+    }
+    true
+}
+
+// The first offset at which something of this length can be made: 0, the ends of children, the ends of mappings.
+fn find_free_area(s: Space, r: usize, len: u64, align: u64) -> Offset
+    requires { ⌜ LiveIn s r ⌝ }
+    ensures { λ x. ⌜ x ≡ findFreeArea s r len align ⌝ }
+{
+    if test_map(s, r, 0, len) {
+        return Offset::Some(0);
+    }
+    let g = s.regions[r];
+    let reglist = s.reglist;
+    let mut k = 0;
+    while k < s.regcount {
+        let slot = reglist[k];
+        let child = s.regions[slot];
+        k += 1;
+        if child.parent != r {
+            continue;
+        }
+        let offset = child.addr + child.size - g.addr;
+        if !vm::check_aligned(offset, align) {
+            continue;
+        }
+        if test_map(s, r, offset, len) {
+            return Offset::Some(offset);
+        }
+    }
+    let maplist = s.maplist;
+    let mut j = 0;
+    while j < s.mapcount {
+        let slot = maplist[j];
+        let m = s.mappings[slot];
+        j += 1;
+        if m.region != r {
+            continue;
+        }
+        let offset = m.addr + m.size - g.addr;
+        if !vm::check_aligned(offset, align) {
+            continue;
+        }
+        if test_map(s, r, offset, len) {
+            return Offset::Some(offset);
+        }
+    }
+    Offset::None
+}
+
+pub fn determine_offset(s: Space, r: usize, offset: Offset, len: u64, align: u64) -> OffsetResult
+    requires { ⌜ LiveIn s r ⌝ }
+    ensures { λ x. ⌜ x ≡ determineOffset s r offset len align ⌝ }
+{
+    if !vm::check_aligned(len, align) {
+        return OffsetResult::Refused(Refusal::InvalidArgs);
+    }
+    match offset {
+        Offset::Some(at) => {
+            if !vm::check_aligned(at, align) {
+                return OffsetResult::Refused(Refusal::InvalidArgs);
+            }
+            if !test_map(s, r, at, len) {
+                return OffsetResult::Refused(Refusal::InvalidArgs);
+            }
+            OffsetResult::Ok(at)
+        }
+        Offset::None => {
+            let g = s.regions[r];
+            if g.size < len {
+                return OffsetResult::Refused(Refusal::InvalidArgs);
+            }
+            match find_free_area(s, r, len, align) {
+                Offset::Some(at) => OffsetResult::Ok(at),
+                Offset::None => OffsetResult::Refused(Refusal::NoMemory),
+            }
+        }
+    }
+}
