@@ -1,15 +1,23 @@
 -- What a space that passes its check has, for proofs.
 use Prim.Native.Nat.{ℕ, zero, suc, _+_, _-_, _^_, _≤_, _<_}
 use mathlib.Core.Path.{_≡_, refl, sym, _∙_, subst}
-use mathlib.Core.Bool.{true}
+use mathlib.Core.Bool.{Bool, true, false}
 use mathlib.Core.List.{List}
 use mathlib.Core.Logic.{_⊎_, inl, inr, ⊎-elim}
 use native.Mathlib.Omega.{arith}
+use lib.ListN.{getD}
 use Rattle.paging.proofs.Cases.{same?}
+use Rattle.scan.proofs.Pigeons.{fewer}
 use Rattle.space.specs.Space.{regionAt, mappingAt, isRegion, isMapping, regionPlace, mappingPlace}
-use Rattle.space.specs.Passes.{In, Passes, RootRange}
+use Rattle.space.specs.Passes.{In, Listed, Passes, RootRange}
 use Rattle.space.specs.declared.Space.{Space}
 use Rattle.space.proofs.Ranges.{inner}
+use Rattle.space.proofs.Tests.{clash}
+
+-- a list has room for a slot that is not live
+room : {n : ℕ} {list : List ℕ} {count : ℕ} {lives : ℕ → Bool} → Listed n list count lives → (i : ℕ) → i < n → lives i ≡ false → count < n
+room {n} {list} {count} l i h free =
+    fewer count n (λ k. getD list k 0) i (record { below = l .slot; once = l .once }) h (λ k m e. clash _ (l .live i h (k, m, e)) free)
 
 module _ {s : Space} {flags : List ℕ} (p : Passes s flags) where
   -- what stands in a list is a live slot
@@ -55,3 +63,10 @@ module _ {s : Space} {flags : List ℕ} (p : Passes s flags) where
   region-end i l a =
       let m = p .regions .whole i l a in
       subst (λ (j : ℕ). regionAt s j .addr + regionAt s j .size < 2 ^ 64) (m .2) (place-end (suc (m .0)) (m .0) (omega arith) (m .1))
+
+  -- where a slot is free, its list has room
+  pub region-room : (i : ℕ) → i < 32 → isRegion s i ≡ false → s .regcount < 32
+  region-room i l e = room (p .regions) i l e
+
+  pub mapping-room : (i : ℕ) → i < 64 → isMapping s i ≡ false → s .mapcount < 64
+  mapping-room i l e = room (p .mappings) i l e

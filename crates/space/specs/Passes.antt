@@ -118,3 +118,8 @@ pub record LiveIn (s : Space) (r : ℕ) : Type 0 where
   pub live : isRegion s r ≡ true
   pub flags : List ℕ
   pub passes : Passes s flags
+
+-- a space that passes its check, whatever the flags
+pub record Passing (s : Space) : Type 0 where
+  pub flags : List ℕ
+  pub passes : Passes s flags

@@ -6,9 +6,9 @@
 --
 -- A region's children are the regions whose `parent` is its slot, its mappings those whose `region` is its slot, both in the order of their list. The
 -- Rust appends to a list and removes from it, so that one list for all regions, and one for all mappings, keeps the order of each.
-use Prim.Native.Nat.{ℕ}
+use Prim.Native.Nat.{ℕ, _+_}
 use mathlib.Core.Bool.{Bool, false}
-use lib.ListN.{getD}
+use lib.ListN.{getD, set}
 use Rattle.space.specs.declared.Region.{Region}
 use Rattle.space.specs.declared.Mapping.{Mapping}
 use Rattle.space.specs.declared.Space.{Space}
@@ -43,3 +43,26 @@ mappingPlace s k = getD (s .maplist) k 0
 -- the parent of the root
 abbrev pub noRegion : ℕ
 noRegion = 32
+
+-- a new region in slot i, last in the list, with the next id; a new mapping in slot i, last in the list
+abbrev pub withRegion : Space → ℕ → Region → Space
+withRegion s i g = record {
+  regions = set (s .regions) i g;
+  mappings = s .mappings;
+  reglist = set (s .reglist) (s .regcount) i;
+  regcount = s .regcount + 1;
+  maplist = s .maplist;
+  mapcount = s .mapcount;
+  nextid = s .nextid + 1;
+}
+
+abbrev pub withMapping : Space → ℕ → Mapping → Space
+withMapping s i m = record {
+  regions = s .regions;
+  mappings = set (s .mappings) i m;
+  reglist = s .reglist;
+  regcount = s .regcount;
+  maplist = set (s .maplist) (s .mapcount) i;
+  mapcount = s .mapcount + 1;
+  nextid = s .nextid;
+}

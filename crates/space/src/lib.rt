@@ -2,8 +2,9 @@
 // lists of slots keep the order in which the Rust's `children` and `mappings` stand. specs/Space draws it.
 use common::defs::VirtAddr;
 ghost use mathlib.Core.Path.{_≡_};
-ghost use Prim.Native.Nat.{_+_};
+ghost use Prim.Native.Nat.{_+_, _^_, _<_};
 ghost use lib.Dec.{leb};
+ghost use Rattle.space.specs.Space.{withRegion, withMapping};
 ghost use Rattle.space.specs.Range.{overlap, inside, contains};
 
 pub const REGIONS: usize = 32;
@@ -48,6 +49,34 @@ pub struct Space {
     pub mapcount: usize,
     // The id of the next region.
     pub nextid: u64,
+}
+
+impl Space {
+    // The region goes to this free slot, last in the list, with the next id.
+    pub fn with_region(mut self, slot: usize, g: Region) -> Self
+        requires { ⌜ (slot < 32) × (self .regcount < 32) × (self .nextid < 2 ^ 32) ⌝ }
+        ensures { λ r. ⌜ r ≡ withRegion self slot g ⌝ }
+    {
+        let count = self.regcount;
+        let nextid = self.nextid;
+        self.regions[slot] = g;
+        self.reglist[count] = slot;
+        self.regcount = count + 1;
+        self.nextid = nextid + 1;
+        self
+    }
+
+    // The mapping goes to this free slot, last in the list.
+    pub fn with_mapping(mut self, slot: usize, m: Mapping) -> Self
+        requires { ⌜ (slot < 64) × (self .mapcount < 64) ⌝ }
+        ensures { λ r. ⌜ r ≡ withMapping self slot m ⌝ }
+    {
+        let count = self.mapcount;
+        self.mappings[slot] = m;
+        self.maplist[count] = slot;
+        self.mapcount = count + 1;
+        self
+    }
 }
 
 // Whether x + y is at most z, whatever the sum.

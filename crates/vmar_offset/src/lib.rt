@@ -1,4 +1,5 @@
-// zircon-object/src/vm/vmar.rs: `determine_offset`, `find_free_area` and `test_map`, on a space that passes its check; and the region of an id.
+// zircon-object/src/vm/vmar.rs: `determine_offset`, `find_free_area` and `test_map`, on a space that passes its check; and
+// which slots a call takes: that of an id, the lowest free one.
 use refusal::Refusal;
 use space::MAPPINGS;
 use space::Mapping;
@@ -7,7 +8,7 @@ use space::Region;
 use space::Space;
 ghost use mathlib.Core.Path.{_≡_};
 ghost use Rattle.space.specs.Passes.{LiveIn};
-ghost use Rattle.vmar_offset.specs.Offset.{hasId, slotOf, childMeets, mappingMeets, testMap, findFreeArea, determineOffset};
+ghost use Rattle.vmar_offset.specs.Offset.{hasId, slotOf, freeRegion, freeMapping, childMeets, mappingMeets, testMap, findFreeArea, determineOffset};
 
 // An offset into a region, or none: the Rust's `Option<usize>`.
 pub enum Offset {
@@ -38,6 +39,36 @@ pub fn slot_of(s: Space, id: u64) -> usize
     while i < REGIONS {
         let g = s.regions[i];
         if has_id(g, id) {
+            return i;
+        }
+        i += 1;
+    }
+    i
+}
+
+// The lowest free region slot, 32 where there is none.
+pub fn free_region(s: Space) -> usize
+    ensures { λ r. ⌜ r ≡ freeRegion s ⌝ }
+{
+    let mut i = 0;
+    while i < REGIONS {
+        let g = s.regions[i];
+        if !g.live {
+            return i;
+        }
+        i += 1;
+    }
+    i
+}
+
+// The lowest free mapping slot, 64 where there is none.
+pub fn free_mapping(s: Space) -> usize
+    ensures { λ r. ⌜ r ≡ freeMapping s ⌝ }
+{
+    let mut i = 0;
+    while i < MAPPINGS {
+        let m = s.mappings[i];
+        if !m.live {
             return i;
         }
         i += 1;
