@@ -1,0 +1,79 @@
+-- The calls on a space, whole. Document 01, 'Refusal numbers': "Order: 12, 13, 11, ..", "Only what is taken is tested"; "A refusal gives value 0 and changes nothing
+-- anywhere". The cores' definitions (vmar_allocate, vmar_map, vmar_lookup) go from 11 on; last, the promises, where 12 and 13 go by Passes and Good.
+use Prim.Native.Nat.{ℕ, _/_}
+use mathlib.Core.Path.{_≡_}
+use mathlib.Core.Bool.{Bool, true}
+use mathlib.Core.List.{List}
+use lib.Dec.{ltb, eqb}
+use lib.ListN.{set, replicate}
+use Rattle.paging.specs.Choice.{pick, Answered}
+use Rattle.refusal.specs.declared.Refusal.{Refusal}
+use Rattle.refusal.specs.declared.Refusal.the-variants.{BadState, BadHandle, BadSpace, BadTable}
+use Rattle.form.specs.Form.{Good}
+use Rattle.space.specs.Space.{blankRegion, blankMapping}
+use Rattle.space.specs.Passes.{Passes}
+use Rattle.space.specs.declared.Space.{Space}
+use Rattle.vmar_offset.specs.Offset.{slotOf}
+use Rattle.vmar_offset.specs.declared.Offset.{Offset}
+use Rattle.vmar_allocate.specs.Allocate.{allocated}
+use Rattle.vmar_allocate.specs.Allocate as allocate
+use Rattle.vmar_allocate.specs.declared.Allocation.{Allocation}
+use Rattle.vmar_map.specs.Map.{MapDone, mapped}
+use Rattle.vmar_map.specs.Map as map
+use Rattle.vmar_lookup.specs.Lookup.{mappingFlags, vaddrFlags}
+use Rattle.vmar_lookup.specs.declared.FlagsResult.{FlagsResult}
+use Rattle.vmar_lookup.specs.declared.FlagsResult.the-variants as flags
+
+-- a fresh space: the root with id 0 in slot 0, flags CAN_MAP_READ, CAN_MAP_WRITE, CAN_MAP_EXECUTE and CAN_MAP_SPECIFIC as in the Rust
+abbrev pub newSpace : ℕ → ℕ → Space
+newSpace addr size = record {
+  regions = set (replicate 32 blankRegion) 0 (record { live = true; id = 0; addr = addr; size = size; flags = 0x78; parent = 32 });
+  mappings = replicate 64 blankMapping;
+  reglist = replicate 32 0;
+  regcount = 1;
+  maplist = replicate 64 0;
+  mapcount = 0;
+  nextid = 1;
+}
+
+-- the answer of a lookup, and the space
+pub record FlagsDone : Type 0 where
+  pub result : FlagsResult
+  pub space : Space
+
+-- a lookup changes nothing, refused or not
+abbrev pub looked : Space → FlagsResult → FlagsDone
+looked s r = record { result = r; space = s }
+
+-- 11, then "On a dead region lookups give 5", then the lookup
+unfoldable pub flagsCall : Space → List ℕ → ℕ → ℕ → FlagsResult
+flagsCall s f id x = pick (ltb id (s .nextid)) (pick (eqb (slotOf s id) 32) (flags.Refused BadState) (mappingFlags s f x (slotOf s id))) (flags.Refused BadHandle)
+
+unfoldable pub vaddrCall : Space → List ℕ → ℕ → ℕ → ℕ → FlagsResult
+vaddrCall s p base id x =
+    pick (ltb id (s .nextid)) (pick (eqb (slotOf s id) 32) (flags.Refused BadState) (vaddrFlags s p (base / 4096) x (slotOf s id))) (flags.Refused BadHandle)
+
+-- an outcome of a call that takes the pool too: 12 where the space does not pass, then 13 where the pool is not good, else the call's
+pub data Ordered {A : Type 0} (P Q : Type 0) (no12 no13 yes′ out : A) : Type 0 where
+  bad-space : (P → ⊥) → out ≡ no12 → Ordered P Q no12 no13 yes′ out
+  bad-table : P → (Q → ⊥) → out ≡ no13 → Ordered P Q no12 no13 yes′ out
+  done : P → Q → out ≡ yes′ → Ordered P Q no12 no13 yes′ out
+
+-- The promises: which outcomes fit. Laws shows that only one does.
+module _ (s : Space) (f : List ℕ) where
+  abbrev pub AllocateFits : ℕ → Offset → ℕ → ℕ → ℕ → Allocation → Type 0
+  AllocateFits id o len flags align out = Answered (Passes s f) (allocate.refused s BadSpace) (allocated s id o len flags align) out
+
+  abbrev pub FlagsFit : ℕ → ℕ → FlagsDone → Type 0
+  FlagsFit id x out = Answered (Passes s f) (looked s (flags.Refused BadSpace)) (looked s (flagsCall s f id x)) out
+
+  module _ (p : List ℕ) (base used : ℕ) where
+    abbrev pub MapFits : ℕ → Offset → ℕ → ℕ → ℕ → ℕ → ℕ → ℕ → Bool → MapDone → Type 0
+    MapFits id o vmo vmo-len at len permissions flags faults out =
+        Ordered (Passes s f) (Good p base used) (map.refused s f BadSpace) (map.refused s f BadTable)
+        (mapped s f id o vmo vmo-len at len permissions flags faults)
+        out
+
+    abbrev pub VaddrFits : ℕ → ℕ → FlagsDone → Type 0
+    VaddrFits id x out =
+        Ordered (Passes s f) (Good p base used) (looked s (flags.Refused BadSpace)) (looked s (flags.Refused BadTable)) (looked s (vaddrCall s p base id x)) out

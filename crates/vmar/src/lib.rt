@@ -1,0 +1,286 @@
+// zircon-object/src/vm/vmar.rs: the calls on a space, on any space, any lent flags, any pool and any argument. Each tests what it takes, in document 01's order, and then
+// calls its core; a refused call changes nothing. The Rust's `self` is a region; here it is the space, and the region goes by its id.
+use common::defs::MMUFlags;
+use common::defs::VirtAddr;
+use common::defs::VmarFlags;
+use refusal::Refusal;
+use space::Mapping;
+use space::NO_REGION;
+use space::Region;
+use space::Space;
+use vmar_allocate::AllocateResult;
+use vmar_lookup::FlagsResult;
+use vmar_map::MapExtResult;
+use vmar_map::Vmo;
+use vmar_offset::Offset;
+ghost use mathlib.Core.Path.{_≡_};
+ghost use Prim.Native.Nat.{_/_};
+ghost use Rattle.form.specs.Form.{Good};
+ghost use Rattle.space.specs.Passes.{Passes, Passing};
+ghost use Rattle.vmar.specs.Calls.{newSpace, AllocateFits, MapFits, flagsCall, FlagsFit, vaddrCall, VaddrFits};
+
+const USER_ASPACE_BASE: u64 = 0x20_0000;
+
+const USER_ASPACE_SIZE: u64 = 0x7fff_ffdf_f000;
+
+const KERNEL_ASPACE_BASE: u64 = 0xffff_ff02_0000_0000;
+
+const KERNEL_ASPACE_SIZE: u64 = 0x80_0000_0000;
+
+// CAN_MAP_READ, CAN_MAP_WRITE, CAN_MAP_EXECUTE and CAN_MAP_SPECIFIC.
+const ROOT_FLAGS: u64 = 0x78;
+
+// A space with the calls on it.
+pub struct AddressSpace {
+    pub space: Space,
+}
+
+// The answer of a call beside the new space.
+pub struct Allocated {
+    pub result: AllocateResult,
+    pub space: AddressSpace,
+}
+
+pub struct Mapped {
+    pub result: MapExtResult,
+    pub space: AddressSpace,
+}
+
+pub struct FlagsFound {
+    pub result: FlagsResult,
+    pub space: AddressSpace,
+}
+
+// A space with a root of this range and nothing in it.
+fn new_space(addr: VirtAddr, size: u64) -> Space
+    ensures { λ r. ⌜ r ≡ newSpace addr size ⌝ }
+{
+    let free = Region {
+        live: false,
+        id: 0,
+        addr: 0,
+        size: 0,
+        flags: 0,
+        parent: 0,
+    };
+    let unmapped = Mapping {
+        live: false,
+        region: 0,
+        addr: 0,
+        size: 0,
+        vmo: 0,
+        offset: 0,
+        permissions: 0,
+    };
+    let mut regions = [free; 32];
+    regions[0] = Region {
+        live: true,
+        id: 0,
+        addr: addr,
+        size: size,
+        flags: ROOT_FLAGS,
+        parent: NO_REGION,
+    };
+    let mappings = [unmapped; 64];
+    let reglist = [0usize; 32];
+    let maplist = [0usize; 64];
+    Space {
+        regions: regions,
+        mappings: mappings,
+        reglist: reglist,
+        regcount: 1,
+        maplist: maplist,
+        mapcount: 0,
+        nextid: 1,
+    }
+}
+
+fn flags_in(s: Space, flags: &[u8], id: u64, vaddr: VirtAddr) -> FlagsResult
+    requires { ⌜ Passes s (now flags) ⌝ }
+    ensures { λ x. ⌜ x ≡ flagsCall s (now (flags .entry)) id vaddr ⌝ }
+{
+    if s.nextid <= id {
+        return FlagsResult::Refused(Refusal::BadHandle);
+    }
+    let r = vmar_offset::slot_of(s, id);
+    if r == NO_REGION {
+        return FlagsResult::Refused(Refusal::BadState);
+    }
+    vmar_lookup::get_mapping_flags(s, flags, r, vaddr)
+}
+
+fn vaddr_flags_in(
+    s: Space,
+    pool: &[u64],
+    base: u64,
+    used: usize,
+    id: u64,
+    vaddr: VirtAddr,
+) -> FlagsResult
+    requires { ⌜ Passing s × Good (now pool) base used ⌝ }
+    ensures { λ x. ⌜ x ≡ vaddrCall s (now (pool .entry)) base id vaddr ⌝ }
+{
+    if s.nextid <= id {
+        return FlagsResult::Refused(Refusal::BadHandle);
+    }
+    let r = vmar_offset::slot_of(s, id);
+    if r == NO_REGION {
+        return FlagsResult::Refused(Refusal::BadState);
+    }
+    vmar_lookup::get_vaddr_flags(s, pool, base, used, r, vaddr)
+}
+
+impl AddressSpace {
+    // A user root. The caller zeroes the page flags.
+    pub fn new_root() -> AddressSpace
+        ensures { λ x. ⌜ x .space ≡ newSpace 0x200000 0x7fffffdff000 ⌝ }
+    {
+        let s = new_space(USER_ASPACE_BASE, USER_ASPACE_SIZE);
+        AddressSpace { space: s }
+    }
+
+    // A kernel root. The caller zeroes the page flags.
+    pub fn new_kernel() -> AddressSpace
+        ensures { λ x. ⌜ x .space ≡ newSpace 0xffffff0200000000 0x8000000000 ⌝ }
+    {
+        let s = new_space(KERNEL_ASPACE_BASE, KERNEL_ASPACE_SIZE);
+        AddressSpace { space: s }
+    }
+
+    // A child of the region, at the offset or where there is room.
+    pub fn allocate(
+        self,
+        flags: &[u8],
+        region: u64,
+        offset: Offset,
+        len: u64,
+        region_flags: VmarFlags,
+        align: u64,
+    ) -> Allocated
+        ensures { λ x. ⌜ AllocateFits (self .space) (now (flags .entry)) region offset len («region_flags» .0) align (record { result = x .result; space = x .space .space }) ⌝ }
+    {
+        let s = self.space;
+        if !space_check::is_good(s, flags) {
+            let no = AllocateResult::Refused(Refusal::BadSpace);
+            return Allocated {
+                result: no,
+                space: self,
+            };
+        }
+        let a = vmar_allocate::allocate(s, region, offset, len, region_flags, align);
+        let result = a.result;
+        let out = a.space;
+        let space = AddressSpace { space: out };
+        Allocated {
+            result: result,
+            space: space,
+        }
+    }
+
+    // The half of `map_ext` that never overwrites: a mapping of the VMO in the region, at the offset or where there is room. The table keeps its entries.
+    pub fn map(
+        self,
+        pages: &mut [u8],
+        pool: &[u64],
+        base: u64,
+        used: usize,
+        region: u64,
+        offset: Offset,
+        vmo: Vmo,
+        vmo_offset: u64,
+        len: u64,
+        permissions: MMUFlags,
+        flags: MMUFlags,
+        allow_faults: bool,
+    ) -> Mapped
+        ensures { λ x. ⌜ MapFits (self .space) (now (pages .entry)) (now (pool .entry)) base used region offset (vmo .id) (vmo .len) «vmo_offset» len (permissions .0) (flags .0) «allow_faults» (record { result = x .result; space = x .space .space; flags = now (pages .exit) }) ⌝ }
+    {
+        let s = self.space;
+        if !space_check::is_good(s, pages) {
+            let no = MapExtResult::Refused(Refusal::BadSpace);
+            return Mapped {
+                result: no,
+                space: self,
+            };
+        }
+        if !form::is_good(pool, base, used) {
+            let no = MapExtResult::Refused(Refusal::BadTable);
+            return Mapped {
+                result: no,
+                space: self,
+            };
+        }
+        let a = vmar_map::map(
+            s,
+            pages,
+            region,
+            offset,
+            vmo,
+            vmo_offset,
+            len,
+            permissions,
+            flags,
+            allow_faults,
+        );
+        let result = a.result;
+        let out = a.space;
+        let space = AddressSpace { space: out };
+        Mapped {
+            result: result,
+            space: space,
+        }
+    }
+
+    // The flags that the mapping over the address gives its page, whether or not the table holds it.
+    pub fn get_mapping_flags(self, flags: &[u8], region: u64, vaddr: VirtAddr) -> FlagsFound
+        ensures { λ x. ⌜ FlagsFit (self .space) (now (flags .entry)) region vaddr (record { result = x .result; space = x .space .space }) ⌝ }
+    {
+        let s = self.space;
+        if !space_check::is_good(s, flags) {
+            let no = FlagsResult::Refused(Refusal::BadSpace);
+            return FlagsFound {
+                result: no,
+                space: self,
+            };
+        }
+        let result = flags_in(s, flags, region, vaddr);
+        FlagsFound {
+            result: result,
+            space: self,
+        }
+    }
+
+    // The flags that the table holds at an address of a mapping.
+    pub fn get_vaddr_flags(
+        self,
+        flags: &[u8],
+        pool: &[u64],
+        base: u64,
+        used: usize,
+        region: u64,
+        vaddr: VirtAddr,
+    ) -> FlagsFound
+        ensures { λ x. ⌜ VaddrFits (self .space) (now (flags .entry)) (now (pool .entry)) base used region vaddr (record { result = x .result; space = x .space .space }) ⌝ }
+    {
+        let s = self.space;
+        if !space_check::is_good(s, flags) {
+            let no = FlagsResult::Refused(Refusal::BadSpace);
+            return FlagsFound {
+                result: no,
+                space: self,
+            };
+        }
+        if !form::is_good(pool, base, used) {
+            let no = FlagsResult::Refused(Refusal::BadTable);
+            return FlagsFound {
+                result: no,
+                space: self,
+            };
+        }
+        let result = vaddr_flags_in(s, pool, base, used, region, vaddr);
+        FlagsFound {
+            result: result,
+            space: self,
+        }
+    }
+}
