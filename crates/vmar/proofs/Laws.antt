@@ -1,0 +1,25 @@
+-- No second outcome fits.
+use mathlib.Core.Path.{_≡_, sym, _∙_}
+use Rattle.paging.proofs.Cases.{only}
+use Rattle.vmar.specs.Calls.{Ordered, bad-space, bad-table, done}
+use Rattle.vmar.specs.Laws.{Once}
+
+-- two outcomes of one call that takes the pool too
+only-ordered : {A : Type 0} {P Q : Type 0} {no12 no13 yes′ a b : A} → Ordered P Q no12 no13 yes′ a → Ordered P Q no12 no13 yes′ b → a ≡ b
+only-ordered (bad-space n e) (bad-space m f) = e ∙ sym f
+only-ordered (bad-space n e) (bad-table p m f) = absurd (n p)
+only-ordered (bad-space n e) (done p q f) = absurd (n p)
+only-ordered (bad-table p n e) (bad-space m f) = absurd (m p)
+only-ordered (bad-table p n e) (bad-table q m f) = e ∙ sym f
+only-ordered (bad-table p n e) (done q r f) = absurd (n r)
+only-ordered (done p q e) (bad-space m f) = absurd (m p)
+only-ordered (done p q e) (bad-table r m f) = absurd (m q)
+only-ordered (done p q e) (done r t f) = e ∙ sym f
+
+pub once : Once
+once = record {
+    allocate = λ s f id o len flags align a b. only;
+    map = λ s f p base used id o vmo vmo-len at len permissions flags faults a b. only-ordered;
+    mapping-flags = λ s f id x a b. only;
+    vaddr-flags = λ s f p base used id x a b. only-ordered;
+}
