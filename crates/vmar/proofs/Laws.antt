@@ -18,8 +18,8 @@ only-ordered (done p q e) (done r t f) = e ∙ sym f
 
 pub once : Once
 once = record {
-    allocate = λ s f id o len flags align a b. only;
-    map = λ s f p base used id o vmo vmo-len at len permissions flags faults a b. only-ordered;
-    mapping-flags = λ s f id x a b. only;
-    vaddr-flags = λ s f p base used id x a b. only-ordered;
+  allocate = λ s f id o len flags align a b. only;
+  map = λ s f p base used id o vmo vmo-len at len permissions flags faults a b. only-ordered;
+  mapping-flags = λ s f id x a b. only;
+  vaddr-flags = λ s f p base used id x a b. only-ordered;
 }
