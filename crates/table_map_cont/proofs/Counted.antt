@@ -91,7 +91,7 @@ module _ (p p′ : List ℕ) (base used used′ v c : ℕ) (G : Good p base used
           let y : o′ .level ≡ min (o .level) c = cc in
           (o′, r, y)
 
-filled-long : (n : ℕ) (p : List ℕ) (b u v : ℕ) (o : OpenEntry) (w : ℕ) → (u + n) * 512 ≤ length p → length (filled n p b u v o w) ≡ length p
+pub filled-long : (n : ℕ) (p : List ℕ) (b u v : ℕ) (o : OpenEntry) (w : ℕ) → (u + n) * 512 ≤ length p → length (filled n p b u v o w) ≡ length p
 unfolding filled
 filled-long zero p b u v o w h = length-set p (o .frame * 512 + o .place) w
 filled-long (suc n) p b u v o w h =
@@ -259,6 +259,6 @@ module _ (p : List ℕ) (base used : ℕ) (G : Good p base used) (v0 e : ℕ) (W
         ap (λ (x : Mapping). x .result) (pages-end p′ (base / 4096) used′ v pa n top f (suc k) z) ∙ sym (counted-end p (base / 4096) used′ c v pa n top (suc k) z))
         (below? 0 n)
 
-pub by-count : (p : List ℕ) (base used v n pa top f : ℕ) → Good p base used → Range v n pa → top ≤ 2
-    → pages (n / 4096) p (base / 4096) used v pa n top f .result ≡ counted (n / 4096) p (base / 4096) used 3 v pa n top
-by-count p base used v n pa top f G R two = right p base used G v (v + n) (R .within) top f two (n / 4096) p used 3 v pa n (start p base used G v (v + n) (R .within) (R .start)) refl R (λ h. none refl refl)
+pub by-count : (k : ℕ) (p : List ℕ) (base used v n pa top f : ℕ) → Good p base used → Range v n pa → top ≤ 2
+    → pages k p (base / 4096) used v pa n top f .result ≡ counted k p (base / 4096) used 3 v pa n top
+by-count k p base used v n pa top f G R two = right p base used G v (v + n) (R .within) top f two k p used 3 v pa n (start p base used G v (v + n) (R .within) (R .start)) refl R (λ h. none refl refl)

@@ -4,4 +4,5 @@ pub mod Lowered
 pub mod Steps
 pub mod Counted
 pub mod Runs
+pub mod Taken
 pub mod Ranges

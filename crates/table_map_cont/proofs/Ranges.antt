@@ -37,45 +37,8 @@ use Rattle.table_map_cont.proofs.Heights.{Fits, page-fits}
 use Rattle.table_map_cont.proofs.Pages.{span-page, in-block, off-block, canonical, range-on}
 use Rattle.table_map_cont.proofs.Steps.{not-both, page-refuses, counted-end, counted-fail, counted-next, pages-end, pages-fail, pages-next}
 use Rattle.table_map_cont.proofs.Counted.{by-count}
+use Rattle.table_map_cont.proofs.Taken.{Solid, solid, few-pages}
 use Rattle.table_map_cont.proofs.Runs.{top-low}
-
--- a page that was mapped: where its tables went
-module _ (p : List ℕ) (base used v : ℕ) (G : Good p base used) (s : PageSize) (pa f : ℕ) where
-  abbrev b : ℕ
-  b = base / 4096
-
-  -- no word in use is changed, since the entry that was written was unused
-  record Solid (u : ℕ) : Type 0 where
-    grows : used ≤ u
-    words : (i k : ℕ) → i < used → k < 512 → (word p i k ≡ 0 → ⊥) → word (mapped p b used v pa s f .pool) i k ≡ word p i k
-
-  solid : (u : ℕ) → mapped p b used v pa s f .result ≡ Mapped u → Solid u
-  solid u e = go (found p b v) refl
-    where
-      go : (r : Walk) → found p b v ≡ r → Solid u
-      go (Leaf l) q = not-both (rw q at e)
-      go (Open o) q = ⊎-elim
-          (λ c. not-both (sym (ap (λ (m : Mapping). m .result) (table-there p b used v s pa f o q c)) ∙ e))
-          (λ c. ⊎-elim
-          (λ d. not-both (sym (ap (λ (m : Mapping). m .result) (short p b used v s pa f o q c d)) ∙ e))
-          (λ d. ok c d)
-          (below? (length p / 512 - used) (o .level - levelOf s)))
-          (below? (o .level) (levelOf s))
-        where
-          ok : levelOf s ≤ o .level → o .level - levelOf s ≤ length p / 512 - used → Solid u
-          ok c d =
-              let D = done p b used v s pa f o q c d in
-              let n : ℕ = o .level - levelOf s in
-              let U = unused p b used (G .formed) v o q in
-              let T = frames-taken .holds n p b used v (leafFor s pa f) o (U .placed .taken) (open-in p base used v G o q .1) (omega arith) (omega (arith, G .sized .there)) in
-              let z : Mapped (used + n) ≡ Mapped u = sym (ap (λ (m : Mapping). m .result) D) ∙ e in
-              let y : used + n ≡ u = cc in
-              record {
-                grows = omega arith;
-                words = λ i k hi hk ne.
-                    ap (λ (m : Mapping). word (m .pool) i k) D
-                    ∙ T .before i k hi hk (λ w. ne (ap (λ (x : ℕ). word p x k) (w .0) ∙ ap (word p (o .frame)) (w .1) ∙ U .blank));
-              }
 
 -- where a page's leaf translates an address of the page to
 leaf-to : (x l w a f m : ℕ) → LeafReads x86 l w a f m → translated x86 x (view l w) ≡ to (a + x % span l) f
@@ -236,6 +199,7 @@ ranges p base used v n pa f G R = record {
   keeps = cont-keeps p (base / 4096) used v n pa f;
   refusals = λ r e. range-refuses p (base / 4096) (topLevel f) (n / 4096) used 3 v pa n r (sym counting ∙ e);
   by-count = counting;
+  few = few;
   empty = λ z. whole z;
 }
   where
@@ -243,7 +207,13 @@ ranges p base used v n pa f G R = record {
     m = pages (n / 4096) p (base / 4096) used v pa n (topLevel f) f
 
     counting : mapCont p (base / 4096) used v n pa f .result ≡ counted (n / 4096) p (base / 4096) used 3 v pa n (topLevel f)
-    counting = same-result p m ∙ by-count p base used v n pa (topLevel f) f G R (top-low f)
+    counting = same-result p m ∙ by-count (n / 4096) p base used v n pa (topLevel f) f G R (top-low f)
+
+    few : counted (n / 4096) p (base / 4096) used 3 v pa n (topLevel f) ≡ counted (length p + 1) p (base / 4096) used 3 v pa n (topLevel f)
+    few =
+        sym (by-count (n / 4096) p base used v n pa (topLevel f) f G R (top-low f))
+        ∙ ap (λ (x : Mapping). x .result) (few-pages base (topLevel f) f (top-low f) p used v pa n G R)
+        ∙ by-count (length p + 1) p base used v n pa (topLevel f) f G R (top-low f)
 
     whole : n ≡ 0 → orNothing p m ≡ record { result = Mapped used; pool = p }
     whole z =

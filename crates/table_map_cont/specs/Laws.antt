@@ -3,6 +3,7 @@ use Prim.Native.Nat.{ℕ, _+_, _-_, _/_, _%_, _≤_, _<_}
 use mathlib.Core.Path.{_≡_}
 use mathlib.Core.Logic.{_⊎_}
 use mathlib.Core.List.{List}
+use lib.ListN.{length}
 use Rattle.paging.specs.Level.{Canonical}
 use Rattle.paging.specs.Table.{to}
 use Rattle.x86_64.specs.Entry.{granted}
@@ -37,6 +38,8 @@ pub record Ranges (p : List ℕ) (base used v n pa f : ℕ) : Type 0 where
   pub refusals : (r : Refusal) → mapCont p (base / 4096) used v n pa f .result ≡ Refused r → (r ≡ AlreadyMapped) ⊎ (r ≡ NoFrames)
   -- the answer, found without a write
   pub by-count : mapCont p (base / 4096) used v n pa f .result ≡ counted (n / 4096) p (base / 4096) used 3 v pa n (topLevel f)
+  -- and with no more pages tried than the pool has words, and one, however long the range is
+  pub few : counted (n / 4096) p (base / 4096) used 3 v pa n (topLevel f) ≡ counted (length p + 1) p (base / 4096) used 3 v pa n (topLevel f)
   -- an empty range is mapped at once
   pub empty : n ≡ 0 → mapCont p (base / 4096) used v n pa f ≡ record { result = Mapped used; pool = p }
 

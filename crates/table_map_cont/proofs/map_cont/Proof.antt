@@ -19,7 +19,7 @@ right k =
     let a = s .args in
     let e = k .before .before .top-level .ensures in
     ap (λ (t : ℕ). pages (a .size / 4096) (now (a .pool)) (a .base / 4096) (a .used) (a .vaddr) (a .paddr) (a .size) t (a .flags .0) .result) (sym e)
-    ∙ by-count (now (a .pool)) (a .base) (a .used) (a .vaddr) (a .size) (a .paddr) (k .before .before .top-level .result) (a .flags .0) (s .pre .0) (s .pre .1) (omega (arith, e, top-low (a .flags .0)))
+    ∙ by-count (a .size / 4096) (now (a .pool)) (a .base) (a .used) (a .vaddr) (a .size) (a .paddr) (k .before .before .top-level .result) (a .flags .0) (s .pre .0) (s .pre .1) (omega (arith, e, top-low (a .flags .0)))
     ∙ sym (k .count .ensures)
 
 top-level-requires : tie.Need-top-level-requires
