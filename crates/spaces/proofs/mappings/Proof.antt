@@ -1,10 +1,8 @@
+-- `mappings`: each call keeps the length of the flags.
+use mathlib.Core.Path.{_∙_}
 use borrow.Author.Needs.{needs}
 use Rattle.spaces.proofs.mappings.Statement.{statement}
 use Rattle.spaces.proofs.mappings.Tie as tie
-use Rattle.spaces.proofs.mappings.Reads as reads
-use Rattle.spaces.proofs.mappings.Lts as lts
-use Rattle.spaces.proofs.map.Reads as map-reads
-use Rattle.vmar.proofs.AddressSpace.new_root.Reads as new-root-reads
 
 -- src/main.rt:148:9
 new-root-requires : tie.Need-new-root-requires
@@ -76,7 +74,15 @@ map-requires-8 c κs = search needs
 
 -- src/main.rt:147:1
 same-length : tie.Need-same-length
-same-length c = ?
+same-length c =
+    let map7 = c .before .before .before .before .before .before .before .map7 in
+    let map6 = c .before .before .before .before .before .before .before .before .before .before .before .before .map6 in
+    let map5 = c .before .before .before .before .before .before .before .before .before .before .before .before .before .before .before .before .before .map5 in
+    let map4 = c .before .before .before .before .before .before .before .before .before .before .before .before .before .before .before .before .before .before .before .before .before .before .map4 in
+    let map3 = c .before .before .before .before .before .before .before .before .before .before .before .before .before .before .before .before .before .before .before .before .before .before .before .before .before .before .before .map3 in
+    let map2 = c .before .before .before .before .before .before .before .before .before .before .before .before .before .before .before .before .before .before .before .before .before .before .before .before .before .before .before .before .before .before .before .before .map2 in
+    let map = c .before .before .before .before .before .before .before .before .before .before .before .before .before .before .before .before .before .before .before .before .before .before .before .before .before .before .before .before .before .before .before .before .before .before .before .before .before .map in
+    c .before .before .map8 .kept .1 .1 .0 ∙ map7 .kept .1 .1 .0 ∙ map6 .kept .1 .1 .0 ∙ map5 .kept .1 .1 .0 ∙ map4 .kept .1 .1 .0 ∙ map3 .kept .1 .1 .0 ∙ map2 .kept .1 .1 .0 ∙ map .kept .1 .1 .0
 
 -- src/main.rt:147:1
 returns : tie.Need-returns

@@ -1,10 +1,8 @@
+-- `more_mappings`: each call keeps the length of the flags.
+use mathlib.Core.Path.{_∙_}
 use borrow.Author.Needs.{needs}
 use Rattle.spaces.proofs.more_mappings.Statement.{statement}
 use Rattle.spaces.proofs.more_mappings.Tie as tie
-use Rattle.spaces.proofs.more_mappings.Reads as reads
-use Rattle.spaces.proofs.more_mappings.Lts as lts
-use Rattle.spaces.proofs.allocate.Reads as allocate-reads
-use Rattle.spaces.proofs.map.Reads as map-reads
 
 -- src/main.rt:161:17
 slice-aggregate-map : tie.Need-slice-aggregate-map
@@ -64,7 +62,13 @@ map-requires-6 c κs = search needs
 
 -- src/main.rt:160:1
 same-length : tie.Need-same-length
-same-length c = ?
+same-length c =
+    let map5 = c .before .before .before .before .before .before .before .map5 in
+    let map4 = c .before .before .before .before .before .before .before .before .before .before .before .before .before .before .before .map4 in
+    let map3 = c .before .before .before .before .before .before .before .before .before .before .before .before .before .before .before .before .before .before .before .before .map3 in
+    let map2 = c .before .before .before .before .before .before .before .before .before .before .before .before .before .before .before .before .before .before .before .before .before .before .before .before .before .map2 in
+    let map = c .before .before .before .before .before .before .before .before .before .before .before .before .before .before .before .before .before .before .before .before .before .before .before .before .before .before .before .before .before .before .map in
+    c .before .before .map6 .kept .1 .1 .0 ∙ map5 .kept .1 .1 .0 ∙ map4 .kept .1 .1 .0 ∙ map3 .kept .1 .1 .0 ∙ map2 .kept .1 .1 .0 ∙ map .kept .1 .1 .0
 
 -- src/main.rt:160:1
 returns : tie.Need-returns
