@@ -16,7 +16,7 @@ use Rattle.vmar_lookup.proofs.Lookups.{Downward, Shown, shown, owned-is
 
 module _ (s : Space) (flags : List ℕ) (p : Passes s flags) (x : ℕ) where
   -- a slot stands at one place
-  one-place : (j k : ℕ) → j < s .regcount → k < s .regcount → regionPlace s j ≡ regionPlace s k → j ≡ k
+  pub one-place : (j k : ℕ) → j < s .regcount → k < s .regcount → regionPlace s j ≡ regionPlace s k → j ≡ k
   one-place j k a b e =
       ⊎-elim
       (λ (l : j < k). absurd (p .regions .once j k l b e))

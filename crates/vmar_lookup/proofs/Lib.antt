@@ -1,2 +1,3 @@
 pub mod Lookups
 pub mod Depth
+pub mod Finds

@@ -1,0 +1,69 @@
+-- A lookup finds the one mapping that holds the address, wherever in the tree it is.
+use Prim.Native.Nat.{ℕ, zero, suc, _+_, _≤_, _<_}
+use mathlib.Core.Path.{_≡_, refl, sym, _∙_, ap, subst}
+use mathlib.Core.Bool.{Bool, true, false}
+use mathlib.Core.List.{List}
+use mathlib.Core.Logic.{_⊎_, inl, inr, ⊎-elim}
+use native.Mathlib.Omega.{arith}
+use lib.Dec.{ltb}
+use borrow.Author.Tests.{lt-ltb, le-ltb}
+use Rattle.paging.proofs.Cases.{same?, below?}
+use Rattle.scan.specs.Scan.{first}
+use Rattle.scan.proofs.Scans.{first-passes, first-most, before-first}
+use Rattle.space.specs.Range.{overlap, contains}
+use Rattle.space.specs.Space.{regionAt, mappingAt, isRegion, isMapping, regionPlace, mappingPlace}
+use Rattle.space.specs.Passes.{Passes, RootRange}
+use Rattle.space.specs.declared.Space.{Space}
+use Rattle.space.proofs.Ranges.{apart, holds, holds-of}
+use Rattle.space.proofs.Facts.{region-place, mapping-place, child-in}
+use Rattle.space.proofs.Tests.{clash}
+use Rattle.vmar_lookup.specs.Lookup.{holdsChild, childHolding, holdsMapping, mappingHolding, stepAt, follow, look}
+use Rattle.vmar_lookup.specs.declared.Found.the-variants as found
+use Rattle.vmar_lookup.specs.declared.Next.the-variants as next
+use Rattle.vmar_lookup.proofs.Lookups.{Holds, downward, at-mapping, owned-is, owned-of}
+use Rattle.vmar_lookup.proofs.Depth.{one-place, enough}
+
+-- two ranges that do not overlap hold no address together
+pub not-both : (a n b m x : ℕ) → overlap a n b m ≡ false → contains a n x ≡ true → contains b m x ≡ true → ⊥
+not-both a n b m x o c d =
+    let h = holds a n x c in
+    let k = holds b m x d in
+    let h0 = h .0 in
+    let h1 = h .1 in
+    let k0 = k .0 in
+    let k1 = k .1 in
+    ⊎-elim (λ (l : b + m ≤ a). omega arith) (λ (l : a + n ≤ b). omega arith) (apart a n b m o)
+
+-- where one index alone passes, it is the first
+the-first : (q : ℕ → Bool) (n k : ℕ) → k < n → q k ≡ true → ((j : ℕ) → j < n → q j ≡ true → j ≡ k) → first q 0 n ≡ k
+the-first q n k l e one =
+    ⊎-elim
+    (λ (h : k < first q 0 n). clash (q k) e (before-first q n k h))
+    (λ (h : first q 0 n ≤ k). let z : first q 0 n < n = omega arith in one (first q 0 n) z (first-passes q n z))
+    (below? k (first q 0 n))
+
+module _ (s : Space) (flags : List ℕ) (p : Passes s flags) (x : ℕ) where
+  -- one child of a region at most holds the address
+  one-child : (r j k : ℕ) → j < s .regcount → k < s .regcount → holdsChild s r x j ≡ true → holdsChild s r x k ≡ true → j ≡ k
+  one-child r j k a b c d =
+      let u = owned-is _ _ _ _ _ c in
+      let v = owned-is _ _ _ _ _ d in
+      let e = region-place p j a in
+      let f = region-place p k b in
+      ⊎-elim
+      (λ (l : regionPlace s j < regionPlace s k).
+      absurd (not-both _ _ _ _ x (p .apart .children (regionPlace s k) (regionPlace s j) l (f .0) (f .1) (e .1) (v .0 ∙ sym (u .0))) (v .1) (u .1)))
+      (λ (l : regionPlace s k ≤ regionPlace s j). ⊎-elim
+      (λ (q : regionPlace s k ≡ regionPlace s j). one-place s flags p x j k a b (sym q))
+      (λ (n : regionPlace s k ≡ regionPlace s j → ⊥).
+      absurd (not-both _ _ _ _ x (p .apart .children (regionPlace s j) (regionPlace s k) (omega arith) (e .0) (e .1) (f .1) (u .0 ∙ sym (v .0))) (u .1) (v .1)))
+      (same? (regionPlace s k) (regionPlace s j)))
+      (below? (regionPlace s j) (regionPlace s k))
+
+  -- a lookup in the parent goes on in the child that holds the address
+  through : (j k : ℕ) → j < s .regcount → k < s .regcount → regionAt s (regionPlace s k) .parent ≡ regionPlace s j → contains (regionAt s (regionPlace s j) .addr) (regionAt s (regionPlace s j) .size) x ≡ true
+      → contains (regionAt s (regionPlace s k) .addr) (regionAt s (regionPlace s k) .size) x ≡ true → stepAt s x (regionPlace s j) ≡ next.Down (regionPlace s k)
+  through j k a b e c d =
+      sym (downward s x (regionPlace s j) c k
+      (the-first (holdsChild s (regionPlace s j) x) (s .regcount) k b (owned-of _ _ _ _ _ e d) (λ i l h. one-child (regionPlace s j) i k l b h (owned-of _ _ _ _ _ e d)))
+      (lt-ltb _ _ b))
