@@ -20,7 +20,7 @@ use Rattle.space.proofs.Tests.{clash}
 use Rattle.vmar_lookup.specs.Lookup.{holdsChild, childHolding, holdsMapping, mappingHolding, stepAt, follow, look}
 use Rattle.vmar_lookup.specs.declared.Found.the-variants as found
 use Rattle.vmar_lookup.specs.declared.Next.the-variants as next
-use Rattle.vmar_lookup.proofs.Lookups.{Holds, downward, at-mapping, owned-is, owned-of}
+use Rattle.vmar_lookup.proofs.Lookups.{Holds, some-depth, downward, at-mapping, owned-is, owned-of}
 use Rattle.vmar_lookup.proofs.Depth.{one-place, enough}
 
 -- two ranges that do not overlap hold no address together
@@ -67,3 +67,49 @@ module _ (s : Space) (flags : List ℕ) (p : Passes s flags) (x : ℕ) where
       sym (downward s x (regionPlace s j) c k
       (the-first (holdsChild s (regionPlace s j) x) (s .regcount) k b (owned-of _ _ _ _ _ e d) (λ i l h. one-child (regionPlace s j) i k l b h (owned-of _ _ _ _ _ e d)))
       (lt-ltb _ _ b))
+
+  -- a lookup in any region that holds the address is one in the root: by places, since a parent stands before its children
+  from-root : (n k : ℕ) → k < n → k < s .regcount → contains (regionAt s (regionPlace s k) .addr) (regionAt s (regionPlace s k) .size) x ≡ true
+      → look s x 32 (regionPlace s k) ≡ look s x 32 (regionPlace s 0)
+  from-root zero k h l c = absurd (omega arith)
+  from-root (suc n) k h l c =
+      ⊎-elim
+      (λ (e : regionAt s (regionPlace s k) .parent ≡ 32). ap (λ (i : ℕ). look s x 32 (regionPlace s i)) (p .tree .root k l e))
+      (λ (e : regionAt s (regionPlace s k) .parent ≡ 32 → ⊥).
+          let m = p .tree .parent k l e in
+          let j = m .0 in
+          let b = m .1 in
+          let a : j < s .regcount = omega arith in
+          let at = region-place p k l in
+          let within = child-in p (regionPlace s k) (regionPlace s j) (at .0) (at .1) (region-place p j a .0) (sym (m .2)) in
+          let w0 = within .0 in
+          let w1 = within .1 in
+          let hold = holds _ _ _ c in
+          let h0 = hold .0 in
+          let h1 = hold .1 in
+          let up : contains (regionAt s (regionPlace s j) .addr) (regionAt s (regionPlace s j) .size) x ≡ true = holds-of _ _ _ (omega arith) (omega arith) in
+          let z = p .regions .room in
+          enough s flags p x 32 31 k l (omega arith) (omega arith)
+          ∙ sym (some-depth s x 32 (regionPlace s j) (λ y. omega arith) ∙ ap (follow (look s x 31)) (through j k a l (sym (m .2)) up c))
+          ∙ from-root n j (omega arith) a up)
+      (same? _ _)
+
+  none-first : (q : ℕ → Bool) (n : ℕ) → ((j : ℕ) → j < n → q j ≡ true → ⊥) → n ≤ first q 0 n
+  none-first q n no′ = ⊎-elim (λ (l : first q 0 n < n). absurd (no′ (first q 0 n) l (first-passes q n l))) (λ (l : n ≤ first q 0 n). l) (below? (first q 0 n) n)
+
+  -- one mapping of a region at most holds the address
+  one-mapping : (r j k : ℕ) → j < s .mapcount → k < s .mapcount → holdsMapping s r x j ≡ true → holdsMapping s r x k ≡ true → mappingPlace s j ≡ mappingPlace s k
+  one-mapping r j k a b c d =
+      let u = owned-is _ _ _ _ _ c in
+      let v = owned-is _ _ _ _ _ d in
+      let e = mapping-place p j a in
+      let f = mapping-place p k b in
+      ⊎-elim
+      (λ (l : mappingPlace s j < mappingPlace s k).
+          absurd (not-both _ _ _ _ x (p .apart .mappings (mappingPlace s k) (mappingPlace s j) l (f .0) (f .1) (e .1) (v .0 ∙ sym (u .0))) (v .1) (u .1)))
+      (λ (l : mappingPlace s k ≤ mappingPlace s j). ⊎-elim
+          (λ (q : mappingPlace s k ≡ mappingPlace s j). sym q)
+          (λ (n : mappingPlace s k ≡ mappingPlace s j → ⊥).
+              absurd (not-both _ _ _ _ x (p .apart .mappings (mappingPlace s j) (mappingPlace s k) (omega arith) (e .0) (e .1) (f .1) (u .0 ∙ sym (v .0))) (u .1) (v .1)))
+          (same? (mappingPlace s k) (mappingPlace s j)))
+      (below? (mappingPlace s j) (mappingPlace s k))
