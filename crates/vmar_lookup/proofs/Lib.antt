@@ -1,3 +1,4 @@
 pub mod Lookups
 pub mod Depth
 pub mod Finds
+pub mod Laws

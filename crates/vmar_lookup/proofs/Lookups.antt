@@ -19,6 +19,7 @@ use Rattle.space.specs.declared.Space.{Space}
 use Rattle.space.proofs.Ranges.{holds}
 use Rattle.space.proofs.Facts.{region-place, mapping-place}
 use Rattle.vmar_lookup.specs.Lookup.{owned, holdsChild, childHolding, holdsMapping, mappingHolding, stepAt, follow, look}
+use Rattle.vmar_lookup.specs.Laws.{Holds}
 use Rattle.vmar_lookup.specs.declared.Found.{Found}
 use Rattle.vmar_lookup.specs.declared.Found.the-variants as found
 use Rattle.vmar_lookup.specs.declared.Next.{Next}
@@ -114,11 +115,6 @@ some-depth s x zero r h = absurd (h refl)
 some-depth s x (suc d) r h = let e : suc d - 1 ≡ d = omega arith in rw e
 
 -- the mapping that a lookup ends at lives and holds the address
-pub record Holds (s : Space) (x m : ℕ) : Type 0 where
-  pub slot : m < 64
-  pub live : isMapping s m ≡ true
-  pub holds : contains (mappingAt s m .addr) (mappingAt s m .size) x ≡ true
-
 module _ (s : Space) (x : ℕ) where
   abbrev Ends : Found → Type 0
   Ends (found.Mapping m) = Holds s x m
