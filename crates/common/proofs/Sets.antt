@@ -1,9 +1,11 @@
 -- Sets of flags as masks and as sums of their members.
-use Prim.Native.Nat.{ℕ, _+_, _-_, _*_, _/_, _%_}
+use Prim.Native.Nat.{ℕ, _+_, _-_, _*_, _/_, _%_, _<_}
 use mathlib.Core.Path.{_≡_, _∙_}
+use mathlib.Core.Bool.{true}
 use native.Mathlib.Omega.{arith}
 use lib.Bits.{bitAnd, and-high}
-use Rattle.common.specs.Flags.{ofFive}
+use borrow.Author.Tests.{eqb-true}
+use Rattle.common.specs.Flags.{ofFive, knownPage}
 
 -- the five page flags are bits 2 to 6: one bit after the other
 pub five : (f : ℕ) → bitAnd f 0x7c ≡ ofFive f
@@ -20,3 +22,7 @@ five f = and-high f 5 2 ∙ omega (arith, a, b, c, d)
 
     d : f / 32 % 4 ≡ f / 32 % 2 + f / 64 % 2 * 2
     d = omega arith
+
+-- known page flags are a byte
+pub byte : (f : ℕ) → knownPage f ≡ true → f < 256
+byte f e = omega (arith, eqb-true (ofFive f) f e)

@@ -2,6 +2,7 @@
 -- EXECUTE 16 .., WRITE 8, USER 32, HUGE_PAGE 64"; and what 'Refusal numbers' calls unknown flag bits.
 use Prim.Native.Nat.{ℕ, _+_, _*_, _/_, _%_, _^_}
 use mathlib.Core.Bool.{Bool}
+use lib.Bits.{bitAnd}
 use lib.Dec.{eqb}
 
 abbrev pub READ : ℕ
@@ -34,3 +35,11 @@ knownPage f = eqb (ofFive f) f
 -- bits 0 to 8
 abbrev pub knownRegion : ℕ → Bool
 knownRegion f = eqb (f % 2 ^ 9) f
+
+-- every flag of f is in p
+abbrev pub grants : ℕ → ℕ → Bool
+grants p f = eqb (bitAnd p f) f
+
+-- READ, WRITE and EXECUTE of f
+abbrev pub rights : ℕ → ℕ
+rights f = bitAnd f 0x1c

@@ -1,6 +1,6 @@
 // kernel-hal/src/common/defs.rs: page flags and page size; and from zircon-object/src/vm/vmar.rs the region flags.
 ghost use mathlib.Core.Path.{_≡_};
-ghost use Rattle.common.specs.Flags.{knownPage, knownRegion};
+ghost use Rattle.common.specs.Flags.{knownPage, knownRegion, grants};
 
 pub type PhysAddr = u64;
 
@@ -22,6 +22,10 @@ impl MMUFlags {
     pub const USER: MMUFlags = MMUFlags(1 << 5);
 
     pub const HUGE_PAGE: MMUFlags = MMUFlags(1 << 6);
+
+    // READ, WRITE and EXECUTE, which the Rust puts together where it uses them.
+    pub const RXW: MMUFlags = MMUFlags(0x1c);
+
     // All five. The Rust's cache bits and DEVICE are not known here.
     pub const ALL: MMUFlags = MMUFlags(0x7c);
 
@@ -30,6 +34,13 @@ impl MMUFlags {
         ensures { λ r. ⌜ r ≡ knownPage (self .0) ⌝ }
     {
         self.0 & MMUFlags::ALL.0 == self.0
+    }
+
+    // Whether every flag of the other is in this one.
+    pub fn contains(self, other: MMUFlags) -> bool
+        ensures { λ r. ⌜ r ≡ grants (self .0) (other .0) ⌝ }
+    {
+        self.0 & other.0 == other.0
     }
 }
 

@@ -1,7 +1,7 @@
 -- The case splits on numbers and tests that proofs make.
 use Prim.Native.Nat.{ℕ, _≤_, _<_}
 use mathlib.Core.Path.{_≡_, refl, sym, _∙_, subst}
-use mathlib.Core.Bool.{Bool, true, false, _&&_}
+use mathlib.Core.Bool.{Bool, true, false, not, _&&_}
 use mathlib.Core.Logic.{_⊎_, inl, inr, ⊎-elim}
 use native.Mathlib.Omega.{arith}
 use lib.Dec.{eqb, ltb}
@@ -26,6 +26,9 @@ below? a b = go (ltb a b) refl
 pub no-truth : {A : Type 0} → false ≡ true → A
 no-truth p = let z : _≡_ {A = ℕ} 0 1 = cc in absurd (omega arith)
 
+pub clash : {A : Type 0} (t : Bool) → t ≡ true → t ≡ false → A
+clash t p q = no-truth (sym q ∙ p)
+
 -- both parts of a test that holds
 pub both : (a b : Bool) → a && b ≡ true → (a ≡ true) × (b ≡ true)
 both true b e = (refl, e)
@@ -37,6 +40,21 @@ above-two l a b c = ⊎-elim (λ h. absurd (go h)) (λ h. h) (below? l 3)
   where
     go : l < 3 → ⊥
     go h = ⊎-elim a (λ n. ⊎-elim b (λ m. c (omega arith)) (same? l 1)) (same? l 0)
+
+-- a test that holds exactly where P does decides it
+pub decide : (P : Type 0) (t : Bool) → (t ≡ true → P) → (P → t ≡ true) → Decided P t
+decide P true to from = to refl
+decide P false to from = λ p. no-truth (from p)
+
+-- a test that fails exactly where P holds decides it, turned
+pub decide-not : (P : Type 0) (t : Bool) → (t ≡ false → P) → (P → t ≡ false) → Decided P (not t)
+decide-not P true to from = λ p. no-truth (sym (from p))
+decide-not P false to from = to refl
+
+-- a decision of Q is one of P where the two say the same
+pub decide-by : (P Q : Type 0) (t : Bool) → (Q → P) → (P → Q) → Decided Q t → Decided P t
+decide-by P Q true to from d = to d
+decide-by P Q false to from d = λ p. d (from p)
 
 -- what a test that decides P has shown
 pub decided-true : (P : Type 0) (r : Bool) → Decided P r → r ≡ true → P

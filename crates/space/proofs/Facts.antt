@@ -6,13 +6,12 @@ use mathlib.Core.List.{List}
 use mathlib.Core.Logic.{_⊎_, inl, inr, ⊎-elim}
 use native.Mathlib.Omega.{arith}
 use lib.ListN.{getD}
-use Rattle.paging.proofs.Cases.{same?}
+use Rattle.paging.proofs.Cases.{same?, clash}
 use Rattle.scan.proofs.Pigeons.{fewer}
 use Rattle.space.specs.Space.{regionAt, mappingAt, isRegion, isMapping, regionPlace, mappingPlace}
 use Rattle.space.specs.Passes.{In, Listed, Passes, RootRange}
 use Rattle.space.specs.declared.Space.{Space}
 use Rattle.space.proofs.Ranges.{inner}
-use Rattle.space.proofs.Tests.{clash}
 
 -- a list has room for a slot that is not live
 room : {n : ℕ} {list : List ℕ} {count : ℕ} {lives : ℕ → Bool} → Listed n list count lives → (i : ℕ) → i < n → lives i ≡ false → count < n

@@ -1,3 +1,3 @@
-pub mod Gather
+pub mod Alike
 pub mod Slots
 pub mod Whole

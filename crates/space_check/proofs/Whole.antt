@@ -6,12 +6,11 @@ use mathlib.Core.List.{List}
 use mathlib.Core.Logic.{_⊎_, inl, inr}
 use native.Mathlib.Omega.{arith}
 use lib.ListN.{length, getD}
-use Rattle.paging.proofs.Cases.{same?}
+use Rattle.paging.proofs.Cases.{same?, clash}
 use Rattle.space.specs.Space.{regionAt, mappingAt, isRegion, isMapping, regionPlace, blankRegion, blankMapping}
 use Rattle.space.specs.Passes.{In, Listed, Tree, Inside, Apart, Known, Ids, Blank, RootRange, Passes}
 use Rattle.space.specs.declared.Mapping.{Mapping}
 use Rattle.space.specs.declared.Space.{Space}
-use Rattle.space.proofs.Tests.{clash}
 use Rattle.space_check.specs.Clauses.{Places, MappingSlots, GoodRegions, GoodMappings, BothClear}
 
 -- a list, by its places and by what its slots say

@@ -7,7 +7,7 @@ use mathlib.Core.Logic.{_⊎_, inl, inr, ⊎-elim}
 use native.Mathlib.Omega.{arith}
 use lib.Dec.{ltb}
 use borrow.Author.Tests.{lt-ltb, le-ltb}
-use Rattle.paging.proofs.Cases.{same?, below?}
+use Rattle.paging.proofs.Cases.{same?, below?, clash}
 use Rattle.scan.specs.Scan.{first}
 use Rattle.scan.proofs.Scans.{first-passes, first-most, before-first}
 use Rattle.space.specs.Range.{overlap, contains}
@@ -16,7 +16,6 @@ use Rattle.space.specs.Passes.{Passes, RootRange}
 use Rattle.space.specs.declared.Space.{Space}
 use Rattle.space.proofs.Ranges.{apart, inner, holds, holds-of}
 use Rattle.space.proofs.Facts.{region-place, mapping-place, child-in}
-use Rattle.space.proofs.Tests.{clash}
 use Rattle.vmar_lookup.specs.Lookup.{owned, holdsChild, childHolding, holdsMapping, mappingHolding, stepAt, follow, look}
 use Rattle.vmar_lookup.specs.Laws.{Holds}
 use Rattle.vmar_lookup.specs.declared.Found.the-variants as found

@@ -12,5 +12,8 @@ pub lookups : (s : Space) (flags : List ℕ) → Passes s flags → Lookups s fl
 lookups s flags p = record {
   finds = λ x. finding.finds s flags p x;
   found-holds = λ x r m l a. ends.found-holds s x 32 r m (record { slot = l; live = a; flags = flags; passes = p });
+  found-inside = λ x r m l a e.
+      let end = ends.ended s x 32 r m (record { slot = l; live = a; flags = flags; passes = p }) e in
+      (end .from, end .to);
   depth = λ x. depths.depth s flags p x;
 }

@@ -17,7 +17,7 @@ use Rattle.space.specs.Space.{regionAt, mappingAt, isMapping, regionPlace, mapp
 use Rattle.space.specs.Passes.{Passes, LiveIn}
 use Rattle.space.specs.declared.Space.{Space}
 use Rattle.space.proofs.Ranges.{holds}
-use Rattle.space.proofs.Facts.{region-place, mapping-place}
+use Rattle.space.proofs.Facts.{region-place, mapping-place, child-in, mapping-in}
 use Rattle.vmar_lookup.specs.Lookup.{owned, holdsChild, childHolding, holdsMapping, mappingHolding, stepAt, follow, look}
 use Rattle.vmar_lookup.specs.Laws.{Holds}
 use Rattle.vmar_lookup.specs.declared.Found.{Found}
@@ -114,27 +114,47 @@ unfolding look
 some-depth s x zero r h = absurd (h refl)
 some-depth s x (suc d) r h = let e : suc d - 1 ≡ d = omega arith in rw e
 
--- the mapping that a lookup ends at lives and holds the address
+-- the mapping that a lookup ends at lives, holds the address, and lies in the region that was asked
 module _ (s : Space) (x : ℕ) where
-  abbrev Ends : Found → Type 0
-  Ends (found.Mapping m) = Holds s x m
-  Ends (found.Refused why) = Unit {0}
+  pub record Ended (r m : ℕ) : Type 0 where
+    pub held : Holds s x m
+    pub from : regionAt s r .addr ≤ mappingAt s m .addr
+    pub to : mappingAt s m .addr + mappingAt s m .size ≤ regionAt s r .addr + regionAt s r .size
 
-  by : (d r : ℕ) → ((c : ℕ) → LiveIn s c → Ends (look s x d c)) → LiveIn s r → (n : Next) → stepAt s x r ≡ n → Ends (follow (look s x d) n)
-  by d r deeper live (next.Down c) e = deeper c (child-lives s x r c live e)
+  abbrev Ends : ℕ → Found → Type 0
+  Ends r (found.Mapping m) = Ended r m
+  Ends r (found.Refused why) = Unit {0}
+
+  -- what ends in a child ends in its parent
+  upward : (r c : ℕ) → (f : Found) → LiveIn s r → stepAt s x r ≡ next.Down c → Ends c f → Ends r f
+  upward r c (found.Mapping m) live e end =
+      let d : Downward s x r c = subst (Shown s x r) e (shown s x r) in
+      let at = region-place (live .passes) (d .place) (d .below) in
+      let in-parent = child-in (live .passes) (regionPlace s (d .place)) r (at .0) (at .1) (live .slot) (owned-is _ _ _ _ _ (d .holds) .0) in
+      let inner = subst (λ (i : ℕ). (regionAt s r .addr ≤ regionAt s i .addr) × (regionAt s i .addr + regionAt s i .size ≤ regionAt s r .addr + regionAt s r .size)) (d .is) in-parent in
+      record { held = end .held; from = omega (arith, inner .0, end .from); to = omega (arith, inner .1, end .to) }
+  upward r c (found.Refused why) live e end = tt
+
+  by : (d r : ℕ) → ((c : ℕ) → LiveIn s c → Ends c (look s x d c)) → LiveIn s r → (n : Next) → stepAt s x r ≡ n → Ends r (follow (look s x d) n)
+  by d r deeper live (next.Down c) e = upward r c (look s x d c) live e (deeper c (child-lives s x r c live e))
   by d r deeper live (next.Mapping m) e =
       let a : AtMapping s x r m = subst (Shown s x r) e (shown s x r) in
       let at = mapping-place (live .passes) (a .place) (a .below) in
-      subst (Holds s x) (a .is) (record { slot = at .0; live = at .1; holds = owned-is _ _ _ _ _ (a .holds) .1 })
+      let own = owned-is _ _ _ _ _ (a .holds) in
+      let within = mapping-in (live .passes) (mappingPlace s (a .place)) r (at .0) (at .1) (own .0) in
+      subst (Ended r) (a .is) (record { held = record { slot = at .0; live = at .1; holds = own .1 }; from = within .0; to = within .1 })
   by d r deeper live (next.Refused why) e = tt
 
-  ends : (d r : ℕ) → LiveIn s r → Ends (look s x d r)
+  ends : (d r : ℕ) → LiveIn s r → Ends r (look s x d r)
   unfolding look
   ends zero r live = tt
   ends (suc d) r live = by d r (ends d) live (stepAt s x r) refl
 
+  pub ended : (d r m : ℕ) → LiveIn s r → look s x d r ≡ found.Mapping m → Ended r m
+  ended d r m live e = subst (Ends r) e (ends d r live)
+
   pub found-holds : (d r m : ℕ) → LiveIn s r → look s x d r ≡ found.Mapping m → Holds s x m
-  found-holds d r m live e = subst Ends e (ends d r live)
+  found-holds d r m live e = ended d r m live e .held
 
 -- the page of an address in the mapping that holds it
 pub page-in : (s : Space) (flags : List ℕ) (x m : ℕ) → Passes s flags → Holds s x m

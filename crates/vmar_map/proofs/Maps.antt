@@ -8,14 +8,14 @@ use native.Mathlib.Numerals.{add-one}
 use lib.Dec.{leb, ltb, eqb}
 use lib.ListN.{set}
 use borrow.Author.Tests.{eqb-true}
-use Rattle.common.specs.Flags.{ofFive, knownPage}
+use Rattle.common.specs.Flags.{ofFive, knownPage, grants, rights}
 use Rattle.vm.specs.Align.{multiple}
 use Rattle.refusal.specs.declared.Refusal.the-variants.{InvalidArgs, AccessDenied, BadState, NoSlot, BadHandle}
 use Rattle.space.specs.Space.{regionAt, withMapping}
 use Rattle.space.specs.declared.Space.{Space}
 use Rattle.vmar_offset.specs.Offset.{slotOf, freeMapping, determineOffset}
 use Rattle.vmar_offset.specs.declared.Offset.{Offset}
-use Rattle.vmar_map.specs.Map.{MapDone, refused, filled, grants, rights, tested, mapping, placed, settled, inRegion, afterTests, mapped}
+use Rattle.vmar_map.specs.Map.{MapDone, refused, filled, tested, mapping, placed, settled, inRegion, afterTests, mapped}
 use Rattle.vmar_map.specs.declared.MapExtResult.the-variants as result
 use Rattle.vmar_map.specs.declared.Tested.the-variants as test
 
@@ -27,10 +27,6 @@ filled-more f at n b = rw (add-one n)
 pub filled-none : (f : List ℕ) (at b : ℕ) → f ≡ filled f at 0 b
 unfolding filled
 filled-none f at b = refl
-
--- known page flags are a byte
-pub byte : (f : ℕ) → knownPage f ≡ true → f < 256
-byte f e = omega (arith, eqb-true (ofFive f) f e)
 
 module _ (v at len p f : ℕ) (faults : Bool) where
   pub odd-offset : multiple at 4096 ≡ false → test.Refused InvalidArgs ≡ tested v at len p f faults

@@ -3,11 +3,10 @@
 use Prim.Native.Nat.{ℕ, zero, suc, _+_, _*_, _/_, _^_}
 use mathlib.Core.Bool.{Bool, true}
 use mathlib.Core.List.{List}
-use lib.Bits.{bitAnd}
 use lib.Dec.{leb, ltb, eqb}
 use lib.ListN.{set}
 use Rattle.paging.specs.Choice.{pick}
-use Rattle.common.specs.Flags.{knownPage}
+use Rattle.common.specs.Flags.{knownPage, grants, rights}
 use Rattle.vm.specs.Align.{multiple}
 use Rattle.refusal.specs.declared.Refusal.{Refusal}
 use Rattle.refusal.specs.declared.Refusal.the-variants.{InvalidArgs, AccessDenied, BadState, NoSlot, BadHandle}
@@ -42,14 +41,6 @@ refused s f why = record { result = result.Refused why; space = s; flags = f }
 unfoldable pub filled : List ℕ → ℕ → ℕ → ℕ → List ℕ
 filled f at zero b = f
 filled f at (suc n) b = set (filled f at n b) (at + n) b
-
--- every flag of f is in p
-abbrev pub grants : ℕ → ℕ → Bool
-grants p f = eqb (bitAnd p f) f
-
--- READ, WRITE and EXECUTE of f
-abbrev pub rights : ℕ → ℕ
-rights f = bitAnd f 0x1c
 
 -- the Rust's first tests: the VMO's range is page-aligned and does not overflow (1), the permissions grant the rights (2), the range lies in the VMO unless
 -- faults are allowed (1)

@@ -7,7 +7,8 @@ use native.Mathlib.Omega.{arith}
 use lib.ListN.{getD}
 use Rattle.common.specs.Flags.{knownPage}
 use Rattle.space.specs.Passes.{others}
-use Rattle.space_check.proofs.Gather.{Gathered, nothing, more, gathered, page-to, page-from}
+use Rattle.scan.proofs.Gather.{Gathered, nothing, more, gathered}
+use Rattle.space_check.proofs.Alike.{page-to, page-from}
 use Rattle.space_check.proofs.are_alike.Statement.{statement}
 use Rattle.space_check.proofs.are_alike.Tie as tie
 

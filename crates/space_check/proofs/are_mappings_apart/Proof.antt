@@ -1,7 +1,7 @@
 -- Two of one region do not overlap.
 use mathlib.Core.Path.{sym, _∙_}
+use Rattle.paging.proofs.Cases.{decide-not, clash}
 use Rattle.space.specs.Range.{overlap}
-use Rattle.space.proofs.Tests.{decide-not, clash}
 use borrow.Author.Needs.{needs}
 use Rattle.space_check.proofs.are_mappings_apart.Statement.{statement}
 use Rattle.space_check.proofs.are_mappings_apart.Tie as tie

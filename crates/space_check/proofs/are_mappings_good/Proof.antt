@@ -4,8 +4,7 @@ use native.Mathlib.Omega.{arith}
 use lib.ListN.{length}
 use denote.Ref.{now}
 use borrow.Author.Tests.{not-true, not-false}
-use Rattle.paging.proofs.Cases.{decided-true, decided-false}
-use Rattle.space.proofs.Tests.{decide-by}
+use Rattle.paging.proofs.Cases.{decided-true, decided-false, decide-by}
 use Rattle.space_check.specs.Clauses.{Places, AllPages, GoodMappings}
 use Rattle.space_check.proofs.Whole.{few}
 use borrow.Author.Needs.{needs}

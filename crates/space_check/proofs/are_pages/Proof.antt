@@ -4,11 +4,10 @@ use mathlib.Core.Path.{_∙_}
 use native.Mathlib.Omega.{arith}
 use denote.Ref.{now}
 use borrow.Author.Tests.{not-true, not-false}
-use Rattle.paging.proofs.Cases.{decided-true, decided-false}
+use Rattle.paging.proofs.Cases.{decided-true, decided-false, decide-by}
 use Rattle.space.specs.Passes.{Pages}
-use Rattle.space.proofs.Tests.{decide-by}
 use Rattle.space_check.specs.Clauses.{AllZero}
-use Rattle.space_check.proofs.Gather.{others-are}
+use Rattle.space_check.proofs.Alike.{others-are}
 use Rattle.space_check.proofs.Slots.{pages-to, pages-from}
 use borrow.Author.Needs.{needs}
 use Rattle.space_check.proofs.are_pages.Statement.{statement}

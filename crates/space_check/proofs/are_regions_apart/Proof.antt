@@ -1,7 +1,7 @@
 -- `are_regions_apart`: ids, then ranges under one parent.
 use mathlib.Core.Path.{sym, _∙_}
+use Rattle.paging.proofs.Cases.{decide-not, clash}
 use Rattle.space.specs.Range.{overlap}
-use Rattle.space.proofs.Tests.{decide-not, clash}
 use borrow.Author.Needs.{needs}
 use Rattle.space_check.proofs.are_regions_apart.Statement.{statement}
 use Rattle.space_check.proofs.are_regions_apart.Tie as tie

@@ -3,8 +3,7 @@ use mathlib.Core.Path.{_≡_}
 use native.Mathlib.Omega.{arith}
 use lib.ListN.{length}
 use borrow.Author.Tests.{not-true, not-false}
-use Rattle.paging.proofs.Cases.{decided-true, decided-false}
-use Rattle.space.proofs.Tests.{decide-by}
+use Rattle.paging.proofs.Cases.{decided-true, decided-false, decide-by}
 use Rattle.space_check.specs.Clauses.{Places, RegionsClear, GoodRegions}
 use borrow.Author.Needs.{needs}
 use Rattle.space_check.proofs.are_regions_good.Statement.{statement}

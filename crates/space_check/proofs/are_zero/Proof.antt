@@ -4,7 +4,7 @@ use Prim.Native.Nat.{ℕ, _+_, _-_, _≤_}
 use mathlib.Core.Path.{_≡_}
 use native.Mathlib.Omega.{arith}
 use lib.ListN.{getD}
-use Rattle.space_check.proofs.Gather.{Gathered, nothing, more, gathered}
+use Rattle.scan.proofs.Gather.{Gathered, nothing, more, gathered}
 use Rattle.space_check.proofs.are_zero.Statement.{statement}
 use Rattle.space_check.proofs.are_zero.Tie as tie
 

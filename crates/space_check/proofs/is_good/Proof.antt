@@ -3,9 +3,8 @@ use mathlib.Core.Path.{_≡_}
 use lib.ListN.{length}
 use denote.Ref.{now}
 use borrow.Author.Tests.{not-true, not-false}
-use Rattle.paging.proofs.Cases.{decided-true, decided-false}
+use Rattle.paging.proofs.Cases.{decided-true, decided-false, decide-by}
 use Rattle.space.specs.Passes.{Passes}
-use Rattle.space.proofs.Tests.{decide-by}
 use Rattle.space_check.specs.Clauses.{BothClear}
 use Rattle.space_check.proofs.Whole.{whole, regions-of, mappings-of, both-of}
 use borrow.Author.Needs.{needs}

@@ -2,8 +2,8 @@
 use mathlib.Core.Path.{sym, _∙_}
 use native.Mathlib.Omega.{arith}
 use borrow.Author.Tests.{leb-true, le-leb, not-true, not-false}
+use Rattle.paging.proofs.Cases.{decide, clash}
 use Rattle.space.proofs.Ranges.{sum-fits, sum-over}
-use Rattle.space.proofs.Tests.{decide, clash}
 use borrow.Author.Needs.{needs}
 use Rattle.space_check.proofs.is_good_mapping.Statement.{statement}
 use Rattle.space_check.proofs.is_good_mapping.Tie as tie

@@ -2,8 +2,8 @@
 use mathlib.Core.Path.{sym, _∙_}
 use native.Mathlib.Omega.{arith}
 use borrow.Author.Tests.{not-true, not-false}
+use Rattle.paging.proofs.Cases.{decide, decide-by, clash}
 use Rattle.space.specs.Passes.{RootRange}
-use Rattle.space.proofs.Tests.{decide, decide-by, clash}
 use Rattle.space_check.specs.Clauses.{GoodRegion}
 use borrow.Author.Needs.{needs}
 use Rattle.space_check.proofs.is_good_region.Statement.{statement}

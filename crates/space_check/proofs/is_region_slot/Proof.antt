@@ -2,9 +2,8 @@
 use mathlib.Core.Path.{_≡_}
 use denote.Ref.{now}
 use borrow.Author.Tests.{not-true, not-false}
-use Rattle.paging.proofs.Cases.{decided-true, decided-false}
+use Rattle.paging.proofs.Cases.{decided-true, decided-false, decide-by, clash}
 use Rattle.space.specs.Space.{blankRegion}
-use Rattle.space.proofs.Tests.{decide-by, clash}
 use Rattle.space_check.specs.Clauses.{GoodRegion, RegionSlot}
 use borrow.Author.Needs.{needs}
 use Rattle.space_check.proofs.is_region_slot.Statement.{statement}

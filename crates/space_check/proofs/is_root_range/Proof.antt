@@ -5,8 +5,8 @@ use mathlib.Core.Logic.{inl, inr, ⊎-elim}
 use native.Mathlib.Omega.{arith}
 use lib.Dec.{eqb}
 use borrow.Author.Tests.{eqb-true, eq-eqb}
+use Rattle.paging.proofs.Cases.{decide}
 use Rattle.space.specs.Passes.{RootRange}
-use Rattle.space.proofs.Tests.{decide}
 use Rattle.space_check.proofs.is_root_range.Statement.{statement}
 use Rattle.space_check.proofs.is_root_range.Tie as tie
 

@@ -2,8 +2,8 @@
 use lib.Dec.{eqb}
 use denote.Ref.{now}
 use borrow.Author.Tests.{eqb-true, eq-eqb}
+use Rattle.paging.proofs.Cases.{decide, decide-by}
 use Rattle.space.specs.Passes.{In}
-use Rattle.space.proofs.Tests.{decide, decide-by}
 use Rattle.space_check.specs.Clauses.{TreePlace}
 use borrow.Author.Needs.{needs}
 use Rattle.space_check.proofs.is_tree_place.Statement.{statement}

@@ -9,7 +9,8 @@ use Rattle.space.proofs.Facts.{region-end, mapping-room}
 use Rattle.vmar_offset.specs.Offset.{freeMapping}
 use Rattle.vmar_offset.proofs.Found.{free-mapping}
 use Rattle.vmar_map.specs.declared.MapExtResult.the-variants as result
-use Rattle.vmar_map.proofs.Maps.{byte, unaligned, too-many, no-slot, made}
+use Rattle.common.proofs.Sets.{byte}
+use Rattle.vmar_map.proofs.Maps.{unaligned, too-many, no-slot, made}
 use borrow.Author.Needs.{needs}
 use Rattle.vmar_map.proofs.place.Statement.{statement}
 use Rattle.vmar_map.proofs.place.Tie as tie

@@ -1,32 +1,27 @@
 -- A scan without a branch: what is wrong is gathered by `or`, and nothing is gathered exactly when each index passes.
-use Prim.Native.Nat.{ℕ, _+_, _*_, _/_, _%_, _≤_, _<_}
-use mathlib.Core.Path.{_≡_, refl, sym, _∙_, ap}
-use mathlib.Core.Bool.{true}
+use Prim.Native.Nat.{ℕ, _+_, _≤_, _<_}
+use mathlib.Core.Path.{_≡_, refl, _∙_, ap}
 use native.Mathlib.Omega.{arith}
-use native.Mathlib.Numerals.{add-one}
 use lib.Dec.{eqb}
-use lib.Bits.{bitAnd, bitOr, bitXor, or-zero-l, or-add-and, xor-add-and, xor-self, and-le-l, and-le-r, and-high}
+use lib.Bits.{bitOr, bitXor, or-zero-l, or-add-and, xor-add-and, xor-self, and-le-l, and-le-r}
 use borrow.Author.Count.{below-none, below-more}
 use borrow.Author.Tests.{eq-eqb, eqb-true}
 use Rattle.paging.specs.Choice.{Decided}
-use Rattle.common.specs.Flags.{ofFive, knownPage}
-use Rattle.common.proofs.Sets.{five}
-use Rattle.space.specs.Passes.{others}
-use Rattle.space.proofs.Tests.{decide}
+use Rattle.paging.proofs.Cases.{decide}
 
-or-left : (d e : ℕ) → bitOr d e ≡ 0 → d ≡ 0
+pub or-left : (d e : ℕ) → bitOr d e ≡ 0 → d ≡ 0
 or-left d e h = omega (arith, h, or-add-and d e, and-le-r d e)
 
-or-right : (d e : ℕ) → bitOr d e ≡ 0 → e ≡ 0
+pub or-right : (d e : ℕ) → bitOr d e ≡ 0 → e ≡ 0
 or-right d e h = omega (arith, h, or-add-and d e, and-le-l d e)
 
-or-of : (d e : ℕ) → d ≡ 0 → e ≡ 0 → bitOr d e ≡ 0
+pub or-of : (d e : ℕ) → d ≡ 0 → e ≡ 0 → bitOr d e ≡ 0
 or-of d e p q = ap (λ (x : ℕ). bitOr x e) p ∙ or-zero-l e ∙ q
 
-xor-same : (x b : ℕ) → bitXor x b ≡ 0 → x ≡ b
+pub xor-same : (x b : ℕ) → bitXor x b ≡ 0 → x ≡ b
 xor-same x b h = omega (arith, h, xor-add-and x b, and-le-l x b, and-le-r x b)
 
-xor-of : (x b : ℕ) → x ≡ b → bitXor x b ≡ 0
+pub xor-of : (x b : ℕ) → x ≡ b → bitXor x b ≡ 0
 xor-of x b p = ap (λ (y : ℕ). bitXor y b) p ∙ xor-self b
 
 -- d holds nothing exactly when P holds below j
@@ -46,17 +41,3 @@ more P d e j g to from = record {
 pub gathered : (P : ℕ → Type 0) (d j n : ℕ) → j ≤ n → n ≤ j → Gathered P d j → Decided ((k : ℕ) → k < n → P k) (eqb d 0)
 gathered P d j n a b g =
     decide ((k : ℕ) → k < n → P k) (eqb d 0) (λ e k l. g .to (eqb-true d 0 e) k (omega arith)) (λ all. eq-eqb d 0 (g .from (λ k l. all k (omega arith))))
-
--- one page's flags: known, and with these others
-pub others-are : (p : ℕ) → bitAnd p 0x60 ≡ others p
-others-are p = and-high p 2 5 ∙ omega arith
-
-pub page-to : (p b : ℕ) → bitOr (bitXor (bitAnd p 0x7c) p) (bitXor (bitAnd p 0x60) b) ≡ 0 → (knownPage p ≡ true) × (others p ≡ b)
-page-to p b e = (
-  eq-eqb (ofFive p) p (sym (five p) ∙ xor-same (bitAnd p 0x7c) p (or-left (bitXor (bitAnd p 0x7c) p) (bitXor (bitAnd p 0x60) b) e)),
-  sym (others-are p) ∙ xor-same (bitAnd p 0x60) b (or-right (bitXor (bitAnd p 0x7c) p) (bitXor (bitAnd p 0x60) b) e),
-)
-
-pub page-from : (p b : ℕ) → (knownPage p ≡ true) × (others p ≡ b) → bitOr (bitXor (bitAnd p 0x7c) p) (bitXor (bitAnd p 0x60) b) ≡ 0
-page-from p b h =
-    or-of (bitXor (bitAnd p 0x7c) p) (bitXor (bitAnd p 0x60) b) (xor-of (bitAnd p 0x7c) p (five p ∙ eqb-true (ofFive p) p (h .0))) (xor-of (bitAnd p 0x60) b (others-are p ∙ h .1))

@@ -1,0 +1,4 @@
+pub mod Runs
+pub mod Stretches
+pub mod Laws
+pub mod Calls

@@ -1,0 +1,2 @@
+pub mod UserRange
+pub mod Laws
