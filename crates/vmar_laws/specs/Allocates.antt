@@ -1,0 +1,83 @@
+-- What `allocate` on a space that passes its check does. Document 01: "A refusal gives value 0 and changes nothing anywhere"; "every child and mapping is in one list
+-- and inside its region, no two of a region overlap"; "Slots .. are used again, the lowest free one first"; "Region ids count up from 0 (the root)"; 'Regions' on the
+-- offset.
+use Prim.Native.Nat.{ℕ, _+_, _<_}
+use mathlib.Core.Path.{_≡_}
+use mathlib.Core.Bool.{true, false}
+use mathlib.Core.List.{List}
+use Rattle.vm.specs.Align.{multiple}
+use Rattle.refusal.specs.declared.Refusal.{Refusal}
+use Rattle.refusal.specs.declared.Refusal.the-variants.{NoMemory}
+use Rattle.space.specs.Range.{overlap, inside}
+use Rattle.space.specs.Space.{regionAt, mappingAt, isRegion, isMapping, regionPlace}
+use Rattle.space.specs.Passes.{Passes}
+use Rattle.space.specs.declared.Space.{Space}
+use Rattle.vmar_offset.specs.Offset.{slotOf, freeRegion}
+use Rattle.vmar_offset.specs.declared.Offset.{Offset}
+use Rattle.vmar_offset.specs.declared.Offset.the-variants as offset
+use Rattle.vmar_allocate.specs.Allocate.{allocated}
+use Rattle.vmar_allocate.specs.declared.AllocateResult.the-variants as result
+use Rattle.vmar_laws.specs.Arrays.{Arrays}
+use Rattle.vmar_laws.specs.Later.{Later}
+use Rattle.vmar_laws.specs.Search.{FirstFit, NoFit}
+
+-- t has in slot i a new child of the region in slot r of s, of this length and these flags
+pub record NewChild (s t : Space) (r i len f : ℕ) : Type 0 where
+  -- "the lowest free one first"
+  pub slot : i < 32
+  pub free : isRegion s i ≡ false
+  pub lowest : (j : ℕ) → j < i → isRegion s j ≡ true
+  -- what stands there
+  pub live : isRegion t i ≡ true
+  pub id : regionAt t i .id ≡ s .nextid
+  pub size : regionAt t i .size ≡ len
+  pub flags : regionAt t i .flags ≡ f
+  pub parent : regionAt t i .parent ≡ r
+  -- "inside its region", which lives and stays as it was
+  pub home : (r < 32) × (isRegion s r ≡ true) × (regionAt t r ≡ regionAt s r)
+  pub inner : inside (regionAt t i .addr) (regionAt t i .size) (regionAt t r .addr) (regionAt t r .size) ≡ true
+  -- "no two of a region overlap"
+  pub children : (j : ℕ) → j < 32 → isRegion s j ≡ true → regionAt s j .parent ≡ r
+      → overlap (regionAt s j .addr) (regionAt s j .size) (regionAt t i .addr) (regionAt t i .size) ≡ false
+  pub mappings : (j : ℕ) → j < 64 → isMapping s j ≡ true → mappingAt s j .region ≡ r
+      → overlap (mappingAt s j .addr) (mappingAt s j .size) (regionAt t i .addr) (regionAt t i .size) ≡ false
+  -- it is last in the list
+  pub count : t .regcount ≡ s .regcount + 1
+  pub last : regionPlace t (s .regcount) ≡ i
+  -- the id is this region's, and the next call's is another
+  pub found : slotOf t (s .nextid) ≡ i
+  pub next : t .nextid ≡ s .nextid + 1
+
+-- all but slot i and the end of the list of regions is as it was
+pub record RegionsKept (s t : Space) (i : ℕ) : Type 0 where
+  pub regions : (j : ℕ) → (j ≡ i → ⊥) → regionAt t j ≡ regionAt s j
+  pub reglist : (k : ℕ) → k < s .regcount → regionPlace t k ≡ regionPlace s k
+  pub mappings : t .mappings ≡ s .mappings
+  pub maplist : t .maplist ≡ s .maplist
+  pub mapcount : t .mapcount ≡ s .mapcount
+
+-- s has become t: n is the id of a new child of the region in slot r
+pub record Allocated (s t : Space) (pages : List ℕ) (r n : ℕ) (o : Offset) (len flags align : ℕ) : Type 0 where
+  pub passes : Passes t pages
+  pub arrays : Arrays t
+  pub id : n ≡ s .nextid
+  pub child : NewChild s t r (freeRegion s) len flags
+  pub kept : RegionsKept s t (freeRegion s)
+  -- at the offset asked for, a multiple of the alignment
+  pub hinted : (at : ℕ) → o ≡ offset.Some at → (regionAt t (freeRegion s) .addr ≡ regionAt s r .addr + at) × (multiple at align ≡ true)
+  -- or at the first that fits
+  pub unhinted : o ≡ offset.None → (at : ℕ) × (regionAt t (freeRegion s) .addr ≡ regionAt s r .addr + at) × FirstFit s r len align at
+
+-- What is proved of every call on a space that passes its check: `AllocatesAll`, below.
+pub record Allocates (s : Space) (pages : List ℕ) (id : ℕ) (o : Offset) (len flags align : ℕ) : Type 0 where
+  -- "A refusal .. changes nothing anywhere"
+  pub refused : (why : Refusal) → allocated s id o len flags align .result ≡ result.Refused why → allocated s id o len flags align .space ≡ s
+  -- 3 only where "the unhinted search finds nothing"
+  pub nowhere : allocated s id o len flags align .result ≡ result.Refused NoMemory → (o ≡ offset.None) × NoFit s (slotOf s id) len align
+  pub accepted : (n : ℕ) → allocated s id o len flags align .result ≡ result.Region n
+      → Allocated s (allocated s id o len flags align .space) pages (slotOf s id) n o len flags align
+  -- ids "never come back", refused or not
+  pub later : Later s (allocated s id o len flags align .space)
+
+pub record AllocatesAll : Type 0 where
+  pub holds : (s : Space) (pages : List ℕ) → Arrays s → Passes s pages → (id : ℕ) (o : Offset) (len flags align : ℕ) → Allocates s pages id o len flags align

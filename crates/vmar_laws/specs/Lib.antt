@@ -1,0 +1,5 @@
+pub mod Arrays
+pub mod Later
+pub mod Search
+pub mod Allocates
+pub mod Maps
