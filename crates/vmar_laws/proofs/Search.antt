@@ -1,0 +1,173 @@
+-- What an offset that was found tells: where it comes from, and what is free there.
+use Prim.Native.Nat.{ℕ, _+_, _≤_, _<_}
+use mathlib.Core.Path.{_≡_, refl, sym, _∙_, ap, subst}
+use mathlib.Core.Bool.{Bool, true, false, not}
+use mathlib.Core.Logic.{_⊎_, inl, inr, ⊎-elim}
+use native.Mathlib.Omega.{arith}
+use lib.Dec.{leb, ltb, eqb}
+use borrow.Author.Tests.{leb-true, ltb-true, ltb-false, not-true, eq-eqb}
+use Rattle.paging.proofs.Cases.{no-truth, below?}
+use Rattle.scan.specs.Scan.{first, some}
+use Rattle.scan.proofs.Scans.{tell, first-passes, first-most, before-first, none-passes}
+use Rattle.vm.specs.Align.{multiple}
+use Rattle.refusal.specs.declared.Refusal.{Refusal}
+use Rattle.refusal.specs.declared.Refusal.the-variants.{InvalidArgs, NoMemory}
+use Rattle.space.specs.Range.{overlap}
+use Rattle.space.specs.Space.{regionAt, mappingAt, isRegion, isMapping}
+use Rattle.space.specs.declared.Region.{Region}
+use Rattle.space.specs.declared.Mapping.{Mapping}
+use Rattle.space.specs.declared.Space.{Space}
+use Rattle.space.proofs.Tests.{clash}
+use Rattle.vmar_offset.specs.Offset.{childMeets, mappingMeets, meetsChild, meetsMapping, testMap, takesChild, takesMapping, childEnd, mappingEnd, findFreeArea, found, determineOffset}
+use Rattle.vmar_offset.specs.declared.Offset.{Offset}
+use Rattle.vmar_offset.specs.declared.Offset.the-variants as offset
+use Rattle.vmar_offset.specs.declared.OffsetResult.{OffsetResult}
+use Rattle.vmar_offset.specs.declared.OffsetResult.the-variants as result
+use Rattle.vmar_offset.proofs.Offsets.{on-child, off-children, at-zero, at-child, at-mapping, nowhere, odd-length, asked-odd, asked-full, asked-free, too-large, searched}
+use Rattle.vmar_offset.proofs.Found.{free-fits}
+use Rattle.vmar_laws.specs.Search.{NoChild, NoMapping, FirstFit, NoFit}
+use Rattle.vmar_laws.specs.Search as fit
+
+-- a child of r that does not meet a range does not overlap it, nor does a mapping
+apart-child : (g : Region) (r b n : ℕ) → childMeets g r b n ≡ false → g .live ≡ true → g .parent ≡ r → overlap (g .addr) (g .size) b n ≡ false
+unfolding childMeets
+apart-child g r b n e a q = rw (a, eq-eqb (g .parent) r q) at e
+
+apart-mapping : (m : Mapping) (r b n : ℕ) → mappingMeets m r b n ≡ false → m .live ≡ true → m .region ≡ r → overlap (m .addr) (m .size) b n ≡ false
+unfolding mappingMeets
+apart-mapping m r b n e a q = rw (a, eq-eqb (m .region) r q) at e
+
+-- what is free overlaps no child and no mapping of its region
+module _ (s : Space) (r off len : ℕ) (t : testMap s r off len ≡ true) where
+  pub room : off + len ≤ regionAt s r .size
+  room = leb-true _ _ (free-fits s r off len t)
+
+  children-off : some (meetsChild s r (regionAt s r .addr + off) len) 0 32 ≡ false
+  children-off =
+      ⊎-elim
+      (λ (c : some (meetsChild s r (regionAt s r .addr + off) len) 0 32 ≡ true). no-truth (on-child s r off len (free-fits s r off len t) c ∙ t))
+      (λ (c : some (meetsChild s r (regionAt s r .addr + off) len) 0 32 ≡ false). c)
+      (tell (some (meetsChild s r (regionAt s r .addr + off) len) 0 32))
+
+  mappings-off : some (meetsMapping s r (regionAt s r .addr + off) len) 0 64 ≡ false
+  mappings-off = not-true _ (sym (off-children s r off len (free-fits s r off len t) children-off) ∙ t)
+
+  pub off-child : (j : ℕ) → j < 32 → isRegion s j ≡ true → regionAt s j .parent ≡ r
+      → overlap (regionAt s j .addr) (regionAt s j .size) (regionAt s r .addr + off) len ≡ false
+  off-child j l a q =
+      apart-child (regionAt s j) r (regionAt s r .addr + off) len (none-passes (meetsChild s r (regionAt s r .addr + off) len) 0 32 j children-off (omega arith) l) a q
+
+  pub off-mapping : (j : ℕ) → j < 64 → isMapping s j ≡ true → mappingAt s j .region ≡ r
+      → overlap (mappingAt s j .addr) (mappingAt s j .size) (regionAt s r .addr + off) len ≡ false
+  off-mapping j l a q =
+      apart-mapping (mappingAt s j) r (regionAt s r .addr + off) len (none-passes (meetsMapping s r (regionAt s r .addr + off) len) 0 64 j mappings-off (omega arith) l) a q
+
+same-ok : {a b : ℕ} → _≡_ {A = OffsetResult} (result.Ok a) (result.Ok b) → a ≡ b
+same-ok e = cc
+
+refused-ok : {A : Type 0} {why : Refusal} {b : ℕ} → _≡_ {A = OffsetResult} (result.Refused why) (result.Ok b) → A
+refused-ok e = let z : _≡_ {A = ℕ} 0 1 = cc in absurd (omega arith)
+
+invalid-none : {A : Type 0} → _≡_ {A = OffsetResult} (result.Refused InvalidArgs) (result.Refused NoMemory) → A
+invalid-none e = let z : _≡_ {A = ℕ} 0 1 = cc in absurd (omega arith)
+
+ok-none : {A : Type 0} {b : ℕ} → _≡_ {A = OffsetResult} (result.Ok b) (result.Refused NoMemory) → A
+ok-none e = let z : _≡_ {A = ℕ} 0 1 = cc in absurd (omega arith)
+
+-- all of the search, found or not
+data Searched (s : Space) (r len align : ℕ) : Offset → Type 0 where
+  at : (off : ℕ) → FirstFit s r len align off → Searched s r len align (offset.Some off)
+  none : NoFit s r len align → Searched s r len align offset.None
+
+-- a place that is not before the end is past all of them
+all-before : (p : ℕ → Bool) (n : ℕ) → ltb (first p 0 n) n ≡ false → (j : ℕ) → j < n → p j ≡ false
+all-before p n e j l = let z : n ≤ first p 0 n = ltb-false _ _ e in before-first p n j (omega arith)
+
+module _ (s : Space) (r len align : ℕ) where
+  search-all : Searched s r len align (findFreeArea s r len align)
+  search-all = ⊎-elim (λ (t : testMap s r 0 len ≡ true). subst (Searched s r len align) (at-zero s r len align t) (at 0 (fit.start t))) past (tell (testMap s r 0 len))
+    where
+      k : ℕ
+      k = first (takesChild s r len align) 0 (s .regcount)
+
+      j : ℕ
+      j = first (takesMapping s r len align) 0 (s .mapcount)
+
+      none-yet : testMap s r 0 len ≡ false → ltb k (s .regcount) ≡ false → NoChild s r len align (s .regcount)
+      none-yet t l = record { start = t; before = all-before (takesChild s r len align) (s .regcount) l }
+
+      last : testMap s r 0 len ≡ false → ltb k (s .regcount) ≡ false → (ltb j (s .mapcount) ≡ true) ⊎ (ltb j (s .mapcount) ≡ false)
+          → Searched s r len align (findFreeArea s r len align)
+      last t l (inl h) =
+          subst (Searched s r len align) (at-mapping s r len align t k refl l j refl h)
+          (at (mappingEnd s r j) (fit.mapping j (ltb-true _ _ h) (none-yet t l) (before-first (takesMapping s r len align) (s .mapcount))
+          (first-passes (takesMapping s r len align) (s .mapcount) (ltb-true _ _ h))))
+      last t l (inr h) =
+          subst (Searched s r len align) (nowhere s r len align t k refl l j refl h)
+          (none (record { children = none-yet t l; mappings = all-before (takesMapping s r len align) (s .mapcount) h }))
+
+      past : testMap s r 0 len ≡ false → Searched s r len align (findFreeArea s r len align)
+      past t =
+          ⊎-elim
+          (λ (l : ltb k (s .regcount) ≡ true).
+          subst (Searched s r len align) (at-child s r len align t k refl l)
+          (at (childEnd s r k) (fit.child k (ltb-true _ _ l) (record { start = t; before = before-first (takesChild s r len align) (s .regcount) })
+          (first-passes (takesChild s r len align) (s .regcount) (ltb-true _ _ l)))))
+          (λ (l : ltb k (s .regcount) ≡ false). last t l (tell (ltb j (s .mapcount))))
+          (tell (ltb k (s .regcount)))
+
+  found-fit : {a : Offset} (off : ℕ) → Searched s r len align a → found a ≡ result.Ok off → FirstFit s r len align off
+  found-fit off (at o w) e = subst (FirstFit s r len align) (same-ok e) w
+  found-fit off (none w) e = refused-ok e
+
+  found-none : {a : Offset} → Searched s r len align a → found a ≡ result.Refused NoMemory → NoFit s r len align
+  found-none (at o w) e = ok-none e
+  found-none (none w) e = w
+
+  -- the offset asked for is the one found, a multiple of the alignment
+  pub hinted : (o : Offset) (off : ℕ) → determineOffset s r o len align ≡ result.Ok off → (a : ℕ) → o ≡ offset.Some a → (off ≡ a) × (multiple a align ≡ true)
+  hinted o off e a q =
+      ⊎-elim
+      (λ (m : multiple len align ≡ true). ⊎-elim
+      (λ (t : multiple a align ≡ true). ⊎-elim
+      (λ (f : testMap s r a len ≡ true). (sym (same-ok (asked-free s r len align o m a q t f ∙ e)), t))
+      (λ (f : testMap s r a len ≡ false). refused-ok (asked-full s r len align o m a q t f ∙ e))
+      (tell (testMap s r a len)))
+      (λ (t : multiple a align ≡ false). refused-ok (asked-odd s r len align o m a q t ∙ e))
+      (tell (multiple a align)))
+      (λ (m : multiple len align ≡ false). refused-ok (odd-length s r len align o m ∙ e))
+      (tell (multiple len align))
+
+  -- one that was not asked for is the first that fits
+  pub unhinted : (o : Offset) (off : ℕ) → determineOffset s r o len align ≡ result.Ok off → o ≡ offset.None → FirstFit s r len align off
+  unhinted o off e q =
+      ⊎-elim
+      (λ (m : multiple len align ≡ true). ⊎-elim
+      (λ (t : ltb (regionAt s r .size) len ≡ true). refused-ok (too-large s r len align o m q t ∙ e))
+      (λ (t : ltb (regionAt s r .size) len ≡ false). found-fit off search-all (searched s r len align o m q t ∙ e))
+      (tell (ltb (regionAt s r .size) len)))
+      (λ (m : multiple len align ≡ false). refused-ok (odd-length s r len align o m ∙ e))
+      (tell (multiple len align))
+
+  -- 3 is given only where none was asked for and none fits
+  pub no-memory : (o : Offset) → determineOffset s r o len align ≡ result.Refused NoMemory → (o ≡ offset.None) × NoFit s r len align
+  no-memory o e =
+      ⊎-elim
+      (λ (m : multiple len align ≡ true). by o refl m)
+      (λ (m : multiple len align ≡ false). invalid-none (odd-length s r len align o m ∙ e))
+      (tell (multiple len align))
+    where
+      by : (a : Offset) → o ≡ a → multiple len align ≡ true → (o ≡ offset.None) × NoFit s r len align
+      by (offset.Some a) q m =
+          ⊎-elim
+          (λ (t : multiple a align ≡ true). ⊎-elim
+          (λ (f : testMap s r a len ≡ true). ok-none (asked-free s r len align o m a q t f ∙ e))
+          (λ (f : testMap s r a len ≡ false). invalid-none (asked-full s r len align o m a q t f ∙ e))
+          (tell (testMap s r a len)))
+          (λ (t : multiple a align ≡ false). invalid-none (asked-odd s r len align o m a q t ∙ e))
+          (tell (multiple a align))
+      by offset.None q m =
+          ⊎-elim
+          (λ (t : ltb (regionAt s r .size) len ≡ true). invalid-none (too-large s r len align o m q t ∙ e))
+          (λ (t : ltb (regionAt s r .size) len ≡ false). (q, found-none search-all (searched s r len align o m q t ∙ e)))
+          (tell (ltb (regionAt s r .size) len))
