@@ -18,7 +18,7 @@ use Rattle.space.proofs.Facts.{region-place, region-room}
 use Rattle.space.proofs.Tests.{clash}
 use Rattle.vmar_laws.specs.Arrays.{Arrays}
 use Rattle.vmar_laws.proofs.Lists.{last-place, early-place, still-in, listed-more}
-use Rattle.vmar_laws.proofs.Slots as slots
+use Rattle.vmar_laws.proofs.Slots.{Fills, here, there, kept, each, pairs, blanks}
 
 -- two ranges do not overlap, whichever is named first
 pub flip : (a n b m : ℕ) → overlap a n b m ≡ false → overlap b m a n ≡ false
@@ -61,27 +61,16 @@ module _ (s : Space) (flags : List ℕ) (p : Passes s flags) (arrays : Arrays s)
   room : s .regcount < length (s .reglist)
   room = let e = arrays .reglist in let z = region-room p i slot free in omega arith
 
-  kept : (j : ℕ) → isRegion s j ≡ true → regionAt t j ≡ regionAt s j
-  kept = slots.kept lives blankRegion (s .regions) 32 (arrays .regions) i slot free g (b .live)
-
-  here : (j : ℕ) → j ≡ i → regionAt t j ≡ g
-  here = slots.here lives blankRegion (s .regions) 32 (arrays .regions) i slot free g (b .live)
-
-  each : (P : ℕ → Region → Type 0) → P i g → ((j : ℕ) → j < 32 → isRegion s j ≡ true → P j (regionAt s j)) → (j : ℕ) → j < 32 → isRegion t j ≡ true → P j (regionAt t j)
-  each = slots.each lives blankRegion (s .regions) 32 (arrays .regions) i slot free g (b .live)
-
-  pairs : (P : Region → Region → Type 0) → ((j : ℕ) → j < 32 → isRegion s j ≡ true → P g (regionAt s j)) → ((j : ℕ) → j < 32 → isRegion s j ≡ true → P (regionAt s j) g)
-      → ((j k : ℕ) → k < j → j < 32 → isRegion s j ≡ true → isRegion s k ≡ true → P (regionAt s j) (regionAt s k))
-      → (j k : ℕ) → k < j → j < 32 → isRegion t j ≡ true → isRegion t k ≡ true → P (regionAt t j) (regionAt t k)
-  pairs = slots.pairs lives blankRegion (s .regions) 32 (arrays .regions) i slot free g (b .live)
+  fills : Fills lives blankRegion (s .regions) 32 i g
+  fills = record { long = arrays .regions; slot = slot; free = free; born = b .live }
 
   -- the last place of the list is the child's, the others hold what they held
   last : (k : ℕ) → k ≡ s .regcount → regionAt t (regionPlace t k) ≡ g
-  last k e = here (regionPlace t k) (last-place (s .reglist) (s .regcount) i room k e)
+  last k e = here fills (regionPlace t k) (last-place (s .reglist) (s .regcount) i room k e)
 
   early : (k : ℕ) → k < s .regcount → regionAt t (regionPlace t k) ≡ regionAt s (regionPlace s k)
   early k l =
-      ap (regionAt t) (early-place (s .reglist) (s .regcount) i k (λ e. omega arith)) ∙ kept (regionPlace s k) (region-place p k l .1)
+      ap (regionAt t) (early-place (s .reglist) (s .regcount) i k (λ e. omega arith)) ∙ kept fills (regionPlace s k) (region-place p k l .1)
 
   -- a statement on the places of the list
   places : (P : ℕ → Region → Type 0) → P (s .regcount) g → ((k : ℕ) → k < s .regcount → P k (regionAt s (regionPlace s k)))
@@ -106,25 +95,25 @@ module _ (s : Space) (flags : List ℕ) (p : Passes s flags) (arrays : Arrays s)
 
   -- a range inside a live region of s is inside that region of t
   still-inside : (r a n : ℕ) → isRegion s r ≡ true → inside a n (regionAt s r .addr) (regionAt s r .size) ≡ true → inside a n (regionAt t r .addr) (regionAt t r .size) ≡ true
-  still-inside r a n h e = subst (λ (x : Region). inside a n (x .addr) (x .size) ≡ true) (sym (kept r h)) e
+  still-inside r a n h e = subst (λ (x : Region). inside a n (x .addr) (x .size) ≡ true) (sym (kept fills r h)) e
 
   inner : Inside t
   inner = record {
-    child = each (λ (j : ℕ) (h : Region). (h .parent ≡ noRegion → ⊥) → inside (h .addr) (h .size) (regionAt t (h .parent) .addr) (regionAt t (h .parent) .size) ≡ true)
+    child = each fills (λ (j : ℕ) (h : Region). (h .parent ≡ noRegion → ⊥) → inside (h .addr) (h .size) (regionAt t (h .parent) .addr) (regionAt t (h .parent) .size) ≡ true)
       (λ n. still-inside (g .parent) _ _ (b .home) (b .inner))
       (λ j l a n. still-inside (regionAt s j .parent) _ _ (parent-lives p j l a n .1) (p .inner .child j l a n));
-    region = λ j l a. let h = p .inner .region j l a in (h .0, subst (λ (x : Region). x .live ≡ true) (sym (kept _ (h .1))) (h .1));
+    region = λ j l a. let h = p .inner .region j l a in (h .0, subst (λ (x : Region). x .live ≡ true) (sym (kept fills _ (h .1))) (h .1));
     mapping = λ j l a. still-inside (mappingAt s j .region) _ _ (p .inner .region j l a .1) (p .inner .mapping j l a);
   }
 
   apart-all : Apart t
   apart-all = record {
-    children = pairs (λ (h k : Region). h .parent ≡ k .parent → overlap (h .addr) (h .size) (k .addr) (k .size) ≡ false)
+    children = pairs fills (λ (h k : Region). h .parent ≡ k .parent → overlap (h .addr) (h .size) (k .addr) (k .size) ≡ false)
       (λ j l a e. flip _ _ _ _ (b .children j l a (sym e)))
       (λ j l a e. b .children j l a e)
       (p .apart .children);
     mappings = p .apart .mappings;
-    both = λ j k l h a c. each
+    both = λ j k l h a c. each fills
       (λ (x : ℕ) (v : Region). v .parent ≡ mappingAt s k .region → overlap (v .addr) (v .size) (mappingAt s k .addr) (mappingAt s k .size) ≡ false)
       (λ e. flip _ _ _ _ (b .mappings k h c (sym e)))
       (λ x m d. p .apart .both x k m h d c)
@@ -134,8 +123,8 @@ module _ (s : Space) (flags : List ℕ) (p : Passes s flags) (arrays : Arrays s)
   ids : Ids t
   ids = record {
     most = let z = b .next in omega arith;
-    issued = each (λ (j : ℕ) (h : Region). h .id < s .nextid + 1) (let z = b .id in omega arith) (λ j l a. let z = p .ids .issued j l a in omega arith);
-    distinct = pairs (λ (h k : Region). h .id ≡ k .id → ⊥)
+    issued = each fills (λ (j : ℕ) (h : Region). h .id < s .nextid + 1) (let z = b .id in omega arith) (λ j l a. let z = p .ids .issued j l a in omega arith);
+    distinct = pairs fills (λ (h k : Region). h .id ≡ k .id → ⊥)
       (λ j l a e. let z = p .ids .issued j l a in let w = b .id in omega arith)
       (λ j l a e. let z = p .ids .issued j l a in let w = b .id in omega arith)
       (p .ids .distinct);
@@ -145,18 +134,18 @@ module _ (s : Space) (flags : List ℕ) (p : Passes s flags) (arrays : Arrays s)
   child-passes = record {
     lent = p .lent;
     regions = listed-more (p .regions) (arrays .reglist) (region-room p i slot free) i slot free (isRegion t)
-      (ap lives (here i refl) ∙ b .live)
-      (λ j n. ap lives (slots.there lives blankRegion (s .regions) 32 (arrays .regions) i slot free g (b .live) j n));
+      (ap lives (here fills i refl) ∙ b .live)
+      (λ j n. ap lives (there fills j n));
     mappings = p .mappings;
     tree = tree;
     inner = inner;
     apart = apart-all;
     paged = p .paged;
     pages = p .pages;
-    known = record { region = each (λ (j : ℕ) (h : Region). knownRegion (h .flags) ≡ true) (b .known) (p .known .region); mapping = p .known .mapping };
+    known = record { region = each fills (λ (j : ℕ) (h : Region). knownRegion (h .flags) ≡ true) (b .known) (p .known .region); mapping = p .known .mapping };
     ids = ids;
     blank = record {
-      region = slots.blanks lives blankRegion (s .regions) 32 (arrays .regions) i slot free g (b .live) (p .blank .region);
+      region = blanks fills (p .blank .region);
       mapping = p .blank .mapping;
     };
   }

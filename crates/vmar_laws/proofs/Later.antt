@@ -5,7 +5,6 @@ use mathlib.Core.Bool.{Bool, true, false}
 use mathlib.Core.Logic.{_⊎_, inl, inr, ⊎-elim}
 use native.Mathlib.Omega.{arith}
 use lib.Dec.{eqb}
-use lib.Seq.{getD-set-same, getD-set-other}
 use borrow.Author.Tests.{eqb-true, eq-eqb, ne-eqb}
 use Rattle.paging.proofs.Cases.{same?, no-truth}
 use Rattle.scan.proofs.Scans.{tell}
@@ -15,9 +14,9 @@ use Rattle.space.specs.declared.Mapping.{Mapping}
 use Rattle.space.specs.declared.Space.{Space}
 use Rattle.vmar_offset.specs.Offset.{hasId, idAt, slotOf}
 use Rattle.vmar_offset.proofs.Found.{slot-live}
-use Rattle.vmar_laws.specs.Arrays.{Arrays}
 use Rattle.vmar_laws.specs.Later.{Later, ForEver}
-use Rattle.vmar_laws.proofs.Lists.{parted, same-first, the-first}
+use Rattle.vmar_laws.proofs.Lists.{same-first, the-first}
+use Rattle.vmar_laws.proofs.Slots.{Fills, here, there, kept}
 
 -- each region stands as it was
 stays : (s t : Space) → s .nextid ≤ t .nextid → ((id : ℕ) → id < s .nextid → slotOf t id ≡ slotOf s id)
@@ -71,37 +70,31 @@ unfolding hasId
 id-of g id t = ⊎-elim (λ (a : g .live ≡ true). (a, eqb-true (g .id) id (rw a at t))) (λ (a : g .live ≡ false). no-truth (rw a at t)) (tell (g .live))
 
 -- a region with the next id in a free slot: no other id sees a change, and it is found by its own
-module _ (s : Space) (arrays : Arrays s) (i : ℕ) (slot : i < 32) (free : isRegion s i ≡ false) (g : Region) (id-is : g .id ≡ s .nextid) where
-  pub new-region : regionAt (withRegion s i g) i ≡ g
-  new-region = let e = arrays .regions in getD-set-same (s .regions) i g blankRegion (omega arith)
-
-  pub old-region : (j : ℕ) → (j ≡ i → ⊥) → regionAt (withRegion s i g) j ≡ regionAt s j
-  old-region j n = getD-set-other (s .regions) i j g blankRegion n
-
+module _ (s : Space) (i : ℕ) (g : Region) (fills : Fills (λ (h : Region). h .live) blankRegion (s .regions) 32 i g) (id-is : g .id ≡ s .nextid) where
   same-id : (id : ℕ) → id < s .nextid → (j : ℕ) → j < 32 → idAt (withRegion s i g) id j ≡ idAt s id j
   same-id id h j l =
       ⊎-elim
       (λ (e : j ≡ i).
       subst (λ (x : ℕ). idAt (withRegion s i g) id x ≡ idAt s id x) (sym e)
-      (no-id (regionAt (withRegion s i g) i) id (λ q. subst (λ (h : Region). h .id ≡ id → ⊥) (sym new-region) (λ z. omega arith) q) ∙ sym (not-live (regionAt s i) id free)))
-      (λ (n : j ≡ i → ⊥). subst (λ (h : Region). hasId h id ≡ idAt s id j) (sym (old-region j n)) refl)
+      (no-id (regionAt (withRegion s i g) i) id (λ q. subst (λ (h : Region). h .id ≡ id → ⊥) (sym (here fills i refl)) (λ z. omega arith) q) ∙ sym (not-live (regionAt s i) id (fills .free))))
+      (λ (n : j ≡ i → ⊥). subst (λ (h : Region). hasId h id ≡ idAt s id j) (sym (there fills j n)) refl)
       (same? j i)
 
   pub later-region : Later s (withRegion s i g)
   later-region =
       stays s (withRegion s i g) (omega arith) (λ id h. same-first (idAt (withRegion s i g) id) (idAt s id) 32 (same-id id h))
-      (λ id h l. old-region (slotOf s id) (parted (isRegion s) i (slotOf s id) free (slot-live s id (λ e. omega arith) .1)))
+      (λ id h l. kept fills (slotOf s id) (slot-live s id (λ e. omega arith) .1))
 
-  pub found-region : g .live ≡ true → ((j : ℕ) → j < 32 → isRegion s j ≡ true → regionAt s j .id < s .nextid) → slotOf (withRegion s i g) (s .nextid) ≡ i
-  found-region live issued =
-      the-first (idAt (withRegion s i g) (s .nextid)) 32 i slot (subst (λ (h : Region). hasId h (s .nextid) ≡ true) (sym new-region) (has-id g (s .nextid) live id-is)) one
+  pub found-region : ((j : ℕ) → j < 32 → isRegion s j ≡ true → regionAt s j .id < s .nextid) → slotOf (withRegion s i g) (s .nextid) ≡ i
+  found-region issued =
+      the-first (idAt (withRegion s i g) (s .nextid)) 32 i (fills .slot) (subst (λ (h : Region). hasId h (s .nextid) ≡ true) (sym (here fills i refl)) (has-id g (s .nextid) (fills .born) id-is)) one
     where
       one : (j : ℕ) → j < 32 → idAt (withRegion s i g) (s .nextid) j ≡ true → j ≡ i
       one j l t =
           ⊎-elim
           (λ (e : j ≡ i). e)
           (λ (n : j ≡ i → ⊥).
-          let q = id-of (regionAt s j) (s .nextid) (subst (λ (h : Region). hasId h (s .nextid) ≡ true) (old-region j n) t) in
+          let q = id-of (regionAt s j) (s .nextid) (subst (λ (h : Region). hasId h (s .nextid) ≡ true) (there fills j n) t) in
           let w = q .1 in
           absurd (let z = issued j l (q .0) in omega arith))
           (same? j i)

@@ -1,5 +1,5 @@
 pub mod Lists
+pub mod Slots
 pub mod Later
 pub mod Search
-pub mod Slots
 pub mod Child

@@ -10,8 +10,14 @@ use lib.Seq.{getD-set-same, getD-set-other}
 use Rattle.paging.proofs.Cases.{same?}
 use Rattle.space.proofs.Tests.{clash}
 
-module _ {A : Type 0} (live : A → Bool) (blank : A) (list : List A) (n : ℕ) (long : length list ≡ n) (i : ℕ) (slot : i < n) (free : live (getD list i blank) ≡ false) (new : A)
-    (born : live new ≡ true) where
+-- slot i of n held none that lives, and now holds `new`
+pub record Fills {A : Type 0} (live : A → Bool) (blank : A) (list : List A) (n i : ℕ) (new : A) : Type 0 where
+  pub long : length list ≡ n
+  pub slot : i < n
+  pub free : live (getD list i blank) ≡ false
+  pub born : live new ≡ true
+
+module _ {A : Type 0} {live : A → Bool} {blank : A} {list : List A} {n i : ℕ} {new : A} (fills : Fills live blank list n i new) where
   -- what a slot held, and what it holds
   abbrev was : ℕ → A
   was j = getD list j blank
@@ -21,14 +27,14 @@ module _ {A : Type 0} (live : A → Bool) (blank : A) (list : List A) (n : ℕ) 
 
   -- slot i holds the new record, the others what they held
   pub here : (j : ℕ) → j ≡ i → is j ≡ new
-  here j e = subst (λ (x : ℕ). is x ≡ new) (sym e) (getD-set-same list i new blank (omega arith))
+  here j e = subst (λ (x : ℕ). is x ≡ new) (sym e) (let l = fills .long in let h = fills .slot in getD-set-same list i new blank (omega arith))
 
   pub there : (j : ℕ) → (j ≡ i → ⊥) → is j ≡ was j
   there j e = getD-set-other list i j new blank e
 
   -- so do the live ones
   pub kept : (j : ℕ) → live (was j) ≡ true → is j ≡ was j
-  kept j a = there j (λ e. clash (live (was i)) (subst (λ (x : ℕ). live (was x) ≡ true) e a) free)
+  kept j a = there j (λ e. clash (live (was i)) (subst (λ (x : ℕ). live (was x) ≡ true) e a) (fills .free))
 
   -- what was live and is not slot i
   before : (j : ℕ) → (j ≡ i → ⊥) → live (is j) ≡ true → live (was j) ≡ true
@@ -61,6 +67,6 @@ module _ {A : Type 0} (live : A → Bool) (blank : A) (list : List A) (n : ℕ) 
   pub blanks : ((j : ℕ) → j < n → live (was j) ≡ false → was j ≡ blank) → (j : ℕ) → j < n → live (is j) ≡ false → is j ≡ blank
   blanks old j l a =
       ⊎-elim
-      (λ (e : j ≡ i). clash (live new) born (subst (λ (x : A). live x ≡ false) (here j e) a))
+      (λ (e : j ≡ i). clash (live new) (fills .born) (subst (λ (x : A). live x ≡ false) (here j e) a))
       (λ (e : j ≡ i → ⊥). there j e ∙ old j l (subst (λ (x : A). live x ≡ false) (there j e) a))
       (same? j i)
