@@ -89,8 +89,8 @@ module _ (s : Space) (flags : List ℕ) (p : Passes s flags) (arrays : Arrays s)
     root = places (λ (k : ℕ) (h : Region). h .parent ≡ noRegion → k ≡ 0) no-root (p .tree .root);
     range = places (λ (k : ℕ) (h : Region). h .parent ≡ noRegion → RootRange (h .addr) (h .size)) no-root (p .tree .range);
     parent = places (λ (k : ℕ) (h : Region). (h .parent ≡ noRegion → ⊥) → In (t .reglist) k (h .parent))
-      (λ n. still-in (s .reglist) (s .regcount) i (s .regcount) (g .parent) (omega arith) (p .regions .whole (g .parent) (b .slot) (b .home)))
-      (λ k l n. still-in (s .reglist) (s .regcount) i k _ (omega arith) (p .tree .parent k l n));
+        (λ n. still-in (s .reglist) (s .regcount) i (s .regcount) (g .parent) (omega arith) (p .regions .whole (g .parent) (b .slot) (b .home)))
+        (λ k l n. still-in (s .reglist) (s .regcount) i k _ (omega arith) (p .tree .parent k l n));
   }
 
   -- a range inside a live region of s is inside that region of t
@@ -100,8 +100,8 @@ module _ (s : Space) (flags : List ℕ) (p : Passes s flags) (arrays : Arrays s)
   inner : Inside t
   inner = record {
     child = each fills (λ (j : ℕ) (h : Region). (h .parent ≡ noRegion → ⊥) → inside (h .addr) (h .size) (regionAt t (h .parent) .addr) (regionAt t (h .parent) .size) ≡ true)
-      (λ n. still-inside (g .parent) _ _ (b .home) (b .inner))
-      (λ j l a n. still-inside (regionAt s j .parent) _ _ (parent-lives p j l a n .1) (p .inner .child j l a n));
+        (λ n. still-inside (g .parent) _ _ (b .home) (b .inner))
+        (λ j l a n. still-inside (regionAt s j .parent) _ _ (parent-lives p j l a n .1) (p .inner .child j l a n));
     region = λ j l a. let h = p .inner .region j l a in (h .0, subst (λ (x : Region). x .live ≡ true) (sym (kept fills _ (h .1))) (h .1));
     mapping = λ j l a. still-inside (mappingAt s j .region) _ _ (p .inner .region j l a .1) (p .inner .mapping j l a);
   }
@@ -109,15 +109,15 @@ module _ (s : Space) (flags : List ℕ) (p : Passes s flags) (arrays : Arrays s)
   apart-all : Apart t
   apart-all = record {
     children = pairs fills (λ (h k : Region). h .parent ≡ k .parent → overlap (h .addr) (h .size) (k .addr) (k .size) ≡ false)
-      (λ j l a e. flip _ _ _ _ (b .children j l a (sym e)))
-      (λ j l a e. b .children j l a e)
-      (p .apart .children);
+        (λ j l a e. flip _ _ _ _ (b .children j l a (sym e)))
+        (λ j l a e. b .children j l a e)
+        (p .apart .children);
     mappings = p .apart .mappings;
     both = λ j k l h a c. each fills
-      (λ (x : ℕ) (v : Region). v .parent ≡ mappingAt s k .region → overlap (v .addr) (v .size) (mappingAt s k .addr) (mappingAt s k .size) ≡ false)
-      (λ e. flip _ _ _ _ (b .mappings k h c (sym e)))
-      (λ x m d. p .apart .both x k m h d c)
-      j l a;
+        (λ (x : ℕ) (v : Region). v .parent ≡ mappingAt s k .region → overlap (v .addr) (v .size) (mappingAt s k .addr) (mappingAt s k .size) ≡ false)
+        (λ e. flip _ _ _ _ (b .mappings k h c (sym e)))
+        (λ x m d. p .apart .both x k m h d c)
+        j l a;
   }
 
   ids : Ids t
@@ -125,17 +125,17 @@ module _ (s : Space) (flags : List ℕ) (p : Passes s flags) (arrays : Arrays s)
     most = let z = b .next in omega arith;
     issued = each fills (λ (j : ℕ) (h : Region). h .id < s .nextid + 1) (let z = b .id in omega arith) (λ j l a. let z = p .ids .issued j l a in omega arith);
     distinct = pairs fills (λ (h k : Region). h .id ≡ k .id → ⊥)
-      (λ j l a e. let z = p .ids .issued j l a in let w = b .id in omega arith)
-      (λ j l a e. let z = p .ids .issued j l a in let w = b .id in omega arith)
-      (p .ids .distinct);
+        (λ j l a e. let z = p .ids .issued j l a in let w = b .id in omega arith)
+        (λ j l a e. let z = p .ids .issued j l a in let w = b .id in omega arith)
+        (p .ids .distinct);
   }
 
   pub child-passes : Passes (withRegion s i g) flags
   child-passes = record {
     lent = p .lent;
     regions = listed-more (p .regions) (arrays .reglist) (region-room p i slot free) i slot free (isRegion t)
-      (ap lives (here fills i refl) ∙ b .live)
-      (λ j n. ap lives (there fills j n));
+        (ap lives (here fills i refl) ∙ b .live)
+        (λ j n. ap lives (there fills j n));
     mappings = p .mappings;
     tree = tree;
     inner = inner;

@@ -3,3 +3,4 @@ pub mod Slots
 pub mod Later
 pub mod Search
 pub mod Child
+pub mod Allocates
