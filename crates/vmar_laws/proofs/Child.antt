@@ -13,16 +13,12 @@ use Rattle.space.specs.Space.{regionAt, mappingAt, isRegion, isMapping, regionP
 use Rattle.space.specs.Passes.{In, RootRange, Tree, Inside, Apart, Known, Ids, Blank, Passes}
 use Rattle.space.specs.declared.Region.{Region}
 use Rattle.space.specs.declared.Space.{Space}
-use Rattle.space.proofs.Ranges.{apart, apart-of}
 use Rattle.space.proofs.Facts.{region-place, region-room}
 use Rattle.space.proofs.Tests.{clash}
 use Rattle.vmar_laws.specs.Arrays.{Arrays}
 use Rattle.vmar_laws.proofs.Lists.{last-place, early-place, still-in, listed-more}
+use Rattle.vmar_laws.proofs.Ranges.{flip}
 use Rattle.vmar_laws.proofs.Slots.{Fills, here, there, kept, each, pairs, blanks}
-
--- two ranges do not overlap, whichever is named first
-pub flip : (a n b m : ℕ) → overlap a n b m ≡ false → overlap b m a n ≡ false
-flip a n b m e = apart-of b m a n (⊎-elim (λ (l : b + m ≤ a). inr l) (λ (l : a + n ≤ b). inl l) (apart a n b m e))
 
 -- the parent of a live region lives
 pub parent-lives : {s : Space} {flags : List ℕ} → Passes s flags → (j : ℕ) → j < 32 → isRegion s j ≡ true → (regionAt s j .parent ≡ noRegion → ⊥)

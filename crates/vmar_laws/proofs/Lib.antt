@@ -1,6 +1,9 @@
 pub mod Lists
 pub mod Slots
+pub mod Ranges
 pub mod Later
 pub mod Search
 pub mod Child
 pub mod Allocates
+pub mod Pages
+pub mod Mapping
