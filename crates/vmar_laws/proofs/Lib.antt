@@ -7,3 +7,4 @@ pub mod Child
 pub mod Allocates
 pub mod Pages
 pub mod Mapping
+pub mod Maps
