@@ -1,13 +1,23 @@
--- What is proved of the promises; proofs/Laws has the proof.
+-- What is proved of the promises: no second outcome fits (proofs/Laws), a fresh space passes its check (proofs/Fresh), what a space keeps through calls and what an
+-- accepted call does (proofs/Keeps).
 use Prim.Native.Nat.{ℕ}
 use mathlib.Core.Path.{_≡_}
 use mathlib.Core.Bool.{Bool}
 use mathlib.Core.List.{List}
+use lib.ListN.{length, getD}
+use Rattle.space.specs.Passes.{Passes, RootRange}
 use Rattle.space.specs.declared.Space.{Space}
+use Rattle.vmar_offset.specs.Offset.{slotOf}
 use Rattle.vmar_offset.specs.declared.Offset.{Offset}
 use Rattle.vmar_allocate.specs.declared.Allocation.{Allocation}
+use Rattle.vmar_allocate.specs.declared.AllocateResult.the-variants as allocate
 use Rattle.vmar_map.specs.Map.{MapDone}
-use Rattle.vmar.specs.Calls.{AllocateFits, MapFits, FlagsFit, VaddrFits, FlagsDone}
+use Rattle.vmar_map.specs.declared.MapExtResult.the-variants as map
+use Rattle.vmar_laws.specs.Arrays.{Arrays}
+use Rattle.vmar_laws.specs.Later.{Later}
+use Rattle.vmar_laws.specs.Allocates as allocates
+use Rattle.vmar_laws.specs.Maps as maps
+use Rattle.vmar.specs.Calls.{newSpace, AllocateFits, MapFits, FlagsFit, VaddrFits, FlagsDone}
 
 -- "a proof shows that no second answer fits"
 pub record Once : Type 0 where
@@ -19,3 +29,42 @@ pub record Once : Type 0 where
       → a ≡ b
   pub mapping-flags : (s : Space) (f : List ℕ) (id x : ℕ) (a b : FlagsDone) → FlagsFit s f id x a → FlagsFit s f id x b → a ≡ b
   pub vaddr-flags : (s : Space) (f p : List ℕ) (base used id x : ℕ) (a b : FlagsDone) → VaddrFits s f p base used id x a → VaddrFits s f p base used id x b → a ≡ b
+
+-- "the caller zeroes flags"
+pub record Zeroed (f : List ℕ) : Type 0 where
+  pub lent : length f ≡ 32768
+  pub zero : (j : ℕ) → getD f j 0 ≡ 0
+
+-- "User root 0x200000 up to 2^47 − 4096; kernel root 0xffffff0200000000, size 0x8000000000": a fresh space passes its check
+pub record Fresh : Type 0 where
+  pub passes : (addr size : ℕ) → RootRange addr size → (f : List ℕ) → Zeroed f → Passes (newSpace addr size) f
+  pub arrays : (addr size : ℕ) → Arrays (newSpace addr size)
+  -- the spaces of `new_root` and of `new_kernel`
+  pub user : (f : List ℕ) → Zeroed f → Passes (newSpace 0x200000 0x7fffffdff000) f
+  pub kernel : (f : List ℕ) → Zeroed f → Passes (newSpace 0xffffff0200000000 0x8000000000) f
+
+-- through a call s and its flags f have become t and g
+pub record Step (s t : Space) (f g : List ℕ) : Type 0 where
+  pub arrays : Arrays t
+  -- a space that passes its check goes on passing it
+  pub passes : Passes s f → Passes t g
+  -- "Region ids .. never come back within a space"; "An id once issued whose region is gone is 5"
+  pub later : Later s t
+
+-- so it is through every call, refused or not, and through a call after another
+pub record Keeps : Type 0 where
+  pub allocate : (s : Space) (f : List ℕ) (id : ℕ) (o : Offset) (len flags align : ℕ) (out : Allocation) → Arrays s
+      → AllocateFits s f id o len flags align out → Step s (out .space) f f
+  pub map : (s : Space) (f p : List ℕ) (base used id : ℕ) (o : Offset) (vmo vmo-len at len permissions flags : ℕ) (faults : Bool) (out : MapDone) → Arrays s
+      → MapFits s f p base used id o vmo vmo-len at len permissions flags faults out → Step s (out .space) f (out .flags)
+  pub mapping-flags : (s : Space) (f : List ℕ) (id x : ℕ) (out : FlagsDone) → Arrays s → FlagsFit s f id x out → Step s (out .space) f f
+  pub vaddr-flags : (s : Space) (f p : List ℕ) (base used id x : ℕ) (out : FlagsDone) → Arrays s → VaddrFits s f p base used id x out → Step s (out .space) f f
+  pub more : (s t u : Space) (f g h : List ℕ) → Step s t f g → Step t u g h → Step s u f h
+
+-- what an accepted call does: vmar_laws/specs/Allocates and Maps
+pub record Means : Type 0 where
+  pub allocate : (s : Space) (f : List ℕ) (id : ℕ) (o : Offset) (len flags align : ℕ) (out : Allocation) → Arrays s
+      → AllocateFits s f id o len flags align out → (n : ℕ) → out .result ≡ allocate.Region n → allocates.Accepted s (out .space) f (slotOf s id) n o len flags align
+  pub map : (s : Space) (f p : List ℕ) (base used id : ℕ) (o : Offset) (vmo vmo-len at len permissions flags : ℕ) (faults : Bool) (out : MapDone) → Arrays s
+      → MapFits s f p base used id o vmo vmo-len at len permissions flags faults out → (addr : ℕ) → out .result ≡ map.Mapped addr
+      → maps.Accepted s (out .space) f (out .flags) (slotOf s id) addr o vmo at len permissions flags

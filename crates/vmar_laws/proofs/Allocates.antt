@@ -33,7 +33,7 @@ use Rattle.vmar_allocate.proofs.Allocates.{no-slot, no-id, made, never-issued, 
 use Rattle.vmar_laws.specs.Arrays.{Arrays}
 use Rattle.vmar_laws.specs.Later.{Later}
 use Rattle.vmar_laws.specs.Search.{FirstFit, NoFit}
-use Rattle.vmar_laws.specs.Allocates.{NewChild, RegionsKept, Allocated, Allocates, AllocatesAll}
+use Rattle.vmar_laws.specs.Allocates.{NewChild, RegionsKept, Accepted, Allocates, AllocatesAll}
 use Rattle.vmar_laws.proofs.Lists.{last-place, early-place}
 use Rattle.vmar_laws.proofs.Slots.{Fills, here, there, kept}
 use Rattle.vmar_laws.proofs.Later.{later-none, later-region, found-region}
@@ -167,7 +167,7 @@ module _ (s : Space) (id : ℕ) (o : Offset) (len flags align : ℕ) where
         is : regionAt t i ≡ g
         is = here fills i refl
 
-    accepted-child : (n : ℕ) → s .nextid ≡ n → Allocated s t pages r n o len flags align
+    accepted-child : (n : ℕ) → s .nextid ≡ n → Accepted s t pages r n o len flags align
     accepted-child n e = record {
       passes = child-passes s pages p arrays i (spare .0) (spare .1) g born;
       arrays = child-arrays s pages p arrays i (spare .0) (spare .1) g born;
@@ -186,7 +186,7 @@ module _ (s : Space) (id : ℕ) (o : Offset) (len flags align : ℕ) where
     }
 
   module _ (pages : List ℕ) (arrays : Arrays s) (p : Passes s pages) where
-    accepts-child : {out : Allocation} → Ends s id o len flags align out → (n : ℕ) → out .result ≡ result.Region n → Allocated s (out .space) pages (slotOf s id) n o len flags align
+    accepts-child : {out : Allocation} → Ends s id o len flags align out → (n : ℕ) → out .result ≡ result.Region n → Accepted s (out .space) pages (slotOf s id) n o len flags align
     accepts-child (refusal w f) n e = region-refused (sym e)
     accepts-child (accepts off shown) n e = accepted-child pages arrays p off shown n (same-region e)
 

@@ -34,7 +34,7 @@ use Rattle.vmar_map.proofs.Maps.{odd-offset, odd-length, over, denied, faulting
 use Rattle.vmar_laws.specs.Arrays.{Arrays}
 use Rattle.vmar_laws.specs.Later.{Later}
 use Rattle.vmar_laws.specs.Search.{FirstFit, NoFit}
-use Rattle.vmar_laws.specs.Maps.{NewMapping, MappingsKept, PagesGiven, Mapped, Maps, MapsAll}
+use Rattle.vmar_laws.specs.Maps.{NewMapping, MappingsKept, PagesGiven, Accepted, Maps, MapsAll}
 use Rattle.vmar_laws.proofs.Lists.{last-place, early-place}
 use Rattle.vmar_laws.proofs.Slots.{Fills, here, there}
 use Rattle.vmar_laws.proofs.Later.{later-none, later-mapping}
@@ -252,7 +252,7 @@ module _ (s : Space) (f : List ℕ) (id : ℕ) (o : Offset) (vmo at len p fl : �
       last = last-place (s .maplist) (s .mapcount) i (let e = arrays .maplist in let z = mapping-room passes i (spare .0) (spare .1) in omega arith) (s .mapcount) refl;
     }
 
-    accepted-mapping : (addr : ℕ) → regionAt s r .addr + off ≡ addr → Mapped s t f g r addr o vmo at len p fl
+    accepted-mapping : (addr : ℕ) → regionAt s r .addr + off ≡ addr → Accepted s t f g r addr o vmo at len p fl
     accepted-mapping addr e = record {
       passes = mapping-passes s f passes arrays i (spare .0) (spare .1) m born g fl (filled-length f (i * 512) (len / 4096) fl ∙ passes .lent) (shown .flags) given;
       arrays = mapping-arrays s f passes arrays i (spare .0) (spare .1) m born g fl (filled-length f (i * 512) (len / 4096) fl ∙ passes .lent) (shown .flags) given;
@@ -273,7 +273,7 @@ module _ (s : Space) (f : List ℕ) (id : ℕ) (o : Offset) (vmo at len p fl : �
     }
 
   accepts-mapping : Arrays s → Passes s f → {out : MapDone} → Ends out → (addr : ℕ) → out .result ≡ result.Mapped addr
-      → Mapped s (out .space) f (out .flags) (slotOf s id) addr o vmo at len p fl
+      → Accepted s (out .space) f (out .flags) (slotOf s id) addr o vmo at len p fl
   accepts-mapping arrays passes (refusal w n) addr e = mapped-refused (sym e)
   accepts-mapping arrays passes (accepts off shown) addr e = accepted-mapping arrays passes off shown addr (same-address e)
 

@@ -57,7 +57,7 @@ pub record RegionsKept (s t : Space) (i : ℕ) : Type 0 where
   pub mapcount : t .mapcount ≡ s .mapcount
 
 -- s has become t: n is the id of a new child of the region in slot r
-pub record Allocated (s t : Space) (pages : List ℕ) (r n : ℕ) (o : Offset) (len flags align : ℕ) : Type 0 where
+pub record Accepted (s t : Space) (pages : List ℕ) (r n : ℕ) (o : Offset) (len flags align : ℕ) : Type 0 where
   pub passes : Passes t pages
   pub arrays : Arrays t
   pub id : n ≡ s .nextid
@@ -75,7 +75,7 @@ pub record Allocates (s : Space) (pages : List ℕ) (id : ℕ) (o : Offset) (len
   -- 3 only where "the unhinted search finds nothing"
   pub nowhere : allocated s id o len flags align .result ≡ result.Refused NoMemory → (o ≡ offset.None) × NoFit s (slotOf s id) len align
   pub accepted : (n : ℕ) → allocated s id o len flags align .result ≡ result.Region n
-      → Allocated s (allocated s id o len flags align .space) pages (slotOf s id) n o len flags align
+      → Accepted s (allocated s id o len flags align .space) pages (slotOf s id) n o len flags align
   -- ids "never come back", refused or not
   pub later : Later s (allocated s id o len flags align .space)
 

@@ -61,7 +61,7 @@ pub record PagesGiven (f g : List ℕ) (i pages flags : ℕ) : Type 0 where
   pub kept : (k j : ℕ) → (k ≡ i → ⊥) → j < 512 → pageAt g k j ≡ pageAt f k j
 
 -- s and f have become t and g: addr is where a new mapping of the region in slot r stands
-pub record Mapped (s t : Space) (f g : List ℕ) (r addr : ℕ) (o : Offset) (vmo at len permissions flags : ℕ) : Type 0 where
+pub record Accepted (s t : Space) (f g : List ℕ) (r addr : ℕ) (o : Offset) (vmo at len permissions flags : ℕ) : Type 0 where
   pub passes : Passes t g
   pub arrays : Arrays t
   pub mapping : NewMapping s t r (freeMapping s) vmo at len permissions
@@ -83,7 +83,7 @@ pub record Maps (s : Space) (f : List ℕ) (id : ℕ) (o : Offset) (vmo vmo-len 
   -- 3 only where "the unhinted search finds nothing"
   pub nowhere : mapped s f id o vmo vmo-len at len permissions flags faults .result ≡ result.Refused NoMemory → (o ≡ offset.None) × NoFit s (slotOf s id) len 4096
   pub accepted : (addr : ℕ) → mapped s f id o vmo vmo-len at len permissions flags faults .result ≡ result.Mapped addr
-      → Mapped s (mapped s f id o vmo vmo-len at len permissions flags faults .space) f (mapped s f id o vmo vmo-len at len permissions flags faults .flags)
+      → Accepted s (mapped s f id o vmo vmo-len at len permissions flags faults .space) f (mapped s f id o vmo vmo-len at len permissions flags faults .flags)
       (slotOf s id) addr o vmo at len permissions flags
   -- ids "never come back", refused or not
   pub later : Later s (mapped s f id o vmo vmo-len at len permissions flags faults .space)

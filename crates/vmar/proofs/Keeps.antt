@@ -1,0 +1,117 @@
+-- What a space keeps through calls, and what accepted ones do.
+use Prim.Native.Nat.{ℕ}
+use mathlib.Core.Path.{_≡_, refl, sym, _∙_, ap, subst}
+use mathlib.Core.Bool.{Bool}
+use mathlib.Core.List.{List}
+use native.Mathlib.Omega.{arith}
+use Rattle.paging.specs.Choice.{Answered, refused, taken}
+use Rattle.refusal.specs.declared.Refusal.{Refusal}
+use Rattle.refusal.specs.declared.Refusal.the-variants.{BadSpace}
+use Rattle.space.specs.Passes.{Passes}
+use Rattle.space.specs.declared.Space.{Space}
+use Rattle.vmar_offset.specs.Offset.{slotOf}
+use Rattle.vmar_offset.specs.declared.Offset.{Offset}
+use Rattle.vmar_allocate.specs.Allocate.{allocated}
+use Rattle.vmar_allocate.specs.declared.Allocation.{Allocation}
+use Rattle.vmar_allocate.specs.declared.AllocateResult.{AllocateResult}
+use Rattle.vmar_allocate.specs.declared.AllocateResult.the-variants as allocate
+use Rattle.vmar_map.specs.Map.{MapDone, mapped}
+use Rattle.vmar_map.specs.declared.MapExtResult.{MapExtResult}
+use Rattle.vmar_map.specs.declared.MapExtResult.the-variants as map
+use Rattle.vmar_laws.specs.Arrays.{Arrays}
+use Rattle.vmar_laws.specs.Allocates as alloc
+use Rattle.vmar_laws.specs.Maps as mapping
+use Rattle.vmar_laws.proofs.Later.{later-none, later-more}
+use Rattle.vmar_laws.proofs.Allocates.{allocates}
+use Rattle.vmar_laws.proofs.Maps.{maps}
+use Rattle.vmar.specs.Calls.{AllocateFits, MapFits, FlagsDone, Ordered, bad-space, bad-table, done}
+use Rattle.vmar.specs.Laws.{Step, Keeps, Means}
+
+-- nothing changes
+still : {s t : Space} {f g : List ℕ} → Arrays s → t ≡ s → g ≡ f → Step s t f g
+still {s} {t} {f} {g} a e h =
+    subst (λ (x : Space). Step s x f g) (sym e) (subst (λ (x : List ℕ). Step s s f x) (sym h) (record { arrays = a; passes = λ p. p; later = later-none s }))
+
+more : (s t u : Space) (f g h : List ℕ) → Step s t f g → Step t u g h → Step s u f h
+more s t u f g h a b = record { arrays = b .arrays; passes = λ p. b .passes (a .passes p); later = later-more s t u (a .later) (b .later) }
+
+module _ (s : Space) (f : List ℕ) (id : ℕ) (o : Offset) (len flags align : ℕ) (arrays : Arrays s) where
+  allocated-step : Passes s f → Step s (allocated s id o len flags align .space) f f
+  allocated-step p = by (allocated s id o len flags align .result) refl
+    where
+      law : alloc.Allocates s f id o len flags align
+      law = allocates .holds s f arrays p id o len flags align
+
+      by : (x : AllocateResult) → allocated s id o len flags align .result ≡ x → Step s (allocated s id o len flags align .space) f f
+      by (allocate.Region n) e = let w = law .accepted n e in record { arrays = w .arrays; passes = λ q. w .passes; later = law .later }
+      by (allocate.Refused why) e = still arrays (law .refused why e) refl
+
+  allocate-step : {out : Allocation} → AllocateFits s f id o len flags align out → Step s (out .space) f f
+  allocate-step (refused n e) = still arrays (ap (λ (x : Allocation). x .space) e) refl
+  allocate-step (taken p e) = subst (λ (x : Allocation). Step s (x .space) f f) (sym e) (allocated-step p)
+
+  refused-region : {A : Type 0} {n : ℕ} {why : Refusal} → _≡_ {A = AllocateResult} (allocate.Refused why) (allocate.Region n) → A
+  refused-region e = let z : _≡_ {A = ℕ} 0 1 = cc in absurd (omega arith)
+
+  allocate-means : {out : Allocation} → AllocateFits s f id o len flags align out → (n : ℕ) → out .result ≡ allocate.Region n
+      → alloc.Accepted s (out .space) f (slotOf s id) n o len flags align
+  allocate-means (refused z e) n q = refused-region (sym (ap (λ (x : Allocation). x .result) e) ∙ q)
+  allocate-means (taken p e) n q =
+      subst (λ (x : Allocation). alloc.Accepted s (x .space) f (slotOf s id) n o len flags align) (sym e)
+      (allocates .holds s f arrays p id o len flags align .accepted n (sym (ap (λ (x : Allocation). x .result) e) ∙ q))
+
+module _ (s : Space) (f p : List ℕ) (base used id : ℕ) (o : Offset) (vmo vmo-len at len permissions flags : ℕ) (faults : Bool) (arrays : Arrays s) where
+  abbrev outcome : MapDone
+  outcome = mapped s f id o vmo vmo-len at len permissions flags faults
+
+  mapped-step : Passes s f → Step s (outcome .space) f (outcome .flags)
+  mapped-step q = by (outcome .result) refl
+    where
+      law : mapping.Maps s f id o vmo vmo-len at len permissions flags faults
+      law = maps .holds s f arrays q id o vmo vmo-len at len permissions flags faults
+
+      by : (x : MapExtResult) → outcome .result ≡ x → Step s (outcome .space) f (outcome .flags)
+      by (map.Mapped addr) e = let w = law .accepted addr e in record { arrays = w .arrays; passes = λ z. w .passes; later = law .later }
+      by (map.Refused why) e = let w = law .refused why e in still arrays (w .0) (w .1)
+
+  map-step : {out : MapDone} → MapFits s f p base used id o vmo vmo-len at len permissions flags faults out → Step s (out .space) f (out .flags)
+  map-step (bad-space n e) = still arrays (ap (λ (x : MapDone). x .space) e) (ap (λ (x : MapDone). x .flags) e)
+  map-step (bad-table q n e) = still arrays (ap (λ (x : MapDone). x .space) e) (ap (λ (x : MapDone). x .flags) e)
+  map-step (done q w e) = subst (λ (x : MapDone). Step s (x .space) f (x .flags)) (sym e) (mapped-step q)
+
+  refused-mapped : {A : Type 0} {n : ℕ} {why : Refusal} → _≡_ {A = MapExtResult} (map.Refused why) (map.Mapped n) → A
+  refused-mapped e = let z : _≡_ {A = ℕ} 0 1 = cc in absurd (omega arith)
+
+  map-means : {out : MapDone} → MapFits s f p base used id o vmo vmo-len at len permissions flags faults out → (addr : ℕ) → out .result ≡ map.Mapped addr
+      → mapping.Accepted s (out .space) f (out .flags) (slotOf s id) addr o vmo at len permissions flags
+  map-means (bad-space n e) addr q = refused-mapped (sym (ap (λ (x : MapDone). x .result) e) ∙ q)
+  map-means (bad-table u n e) addr q = refused-mapped (sym (ap (λ (x : MapDone). x .result) e) ∙ q)
+  map-means (done u w e) addr q =
+      subst (λ (x : MapDone). mapping.Accepted s (x .space) f (x .flags) (slotOf s id) addr o vmo at len permissions flags) (sym e)
+      (maps .holds s f arrays u id o vmo vmo-len at len permissions flags faults .accepted addr (sym (ap (λ (x : MapDone). x .result) e) ∙ q))
+
+-- a lookup changes nothing
+looked-step : {P : Type 0} {s : Space} {f : List ℕ} {a b out : FlagsDone} → Arrays s → a .space ≡ s → b .space ≡ s → Answered P a b out → Step s (out .space) f f
+looked-step arrays x y (refused n e) = still arrays (ap (λ (d : FlagsDone). d .space) e ∙ x) refl
+looked-step arrays x y (taken p e) = still arrays (ap (λ (d : FlagsDone). d .space) e ∙ y) refl
+
+ordered-step : {P Q : Type 0} {s : Space} {f : List ℕ} {a b c out : FlagsDone} → Arrays s → a .space ≡ s → b .space ≡ s → c .space ≡ s → Ordered P Q a b c out
+    → Step s (out .space) f f
+ordered-step arrays x y z (bad-space n e) = still arrays (ap (λ (d : FlagsDone). d .space) e ∙ x) refl
+ordered-step arrays x y z (bad-table p n e) = still arrays (ap (λ (d : FlagsDone). d .space) e ∙ y) refl
+ordered-step arrays x y z (done p q e) = still arrays (ap (λ (d : FlagsDone). d .space) e ∙ z) refl
+
+pub keeps : Keeps
+keeps = record {
+  allocate = λ s f id o len flags align out arrays. allocate-step s f id o len flags align arrays;
+  map = λ s f p base used id o vmo vmo-len at len permissions flags faults out arrays. map-step s f p base used id o vmo vmo-len at len permissions flags faults arrays;
+  mapping-flags = λ s f id x out arrays. looked-step arrays refl refl;
+  vaddr-flags = λ s f p base used id x out arrays. ordered-step arrays refl refl refl;
+  more = more;
+}
+
+pub means : Means
+means = record {
+  allocate = λ s f id o len flags align out arrays. allocate-means s f id o len flags align arrays;
+  map = λ s f p base used id o vmo vmo-len at len permissions flags faults out arrays. map-means s f p base used id o vmo vmo-len at len permissions flags faults arrays;
+}
