@@ -12,12 +12,10 @@ use Rattle.scan.proofs.Scans.{tell, before-first}
 use Rattle.vm.specs.Align.{multiple}
 use Rattle.refusal.specs.declared.Refusal.{Refusal}
 use Rattle.refusal.specs.declared.Refusal.the-variants.{InvalidArgs, NoMemory, BadState, NoSlot, BadHandle}
-use Rattle.space.specs.Range.{overlap, inside}
-use Rattle.space.specs.Space.{regionAt, mappingAt, isRegion, regionPlace, withRegion, blankRegion}
+use Rattle.space.specs.Space.{regionAt, isRegion, regionPlace, withRegion, blankRegion}
 use Rattle.space.specs.Passes.{Passes}
 use Rattle.space.specs.declared.Region.{Region}
 use Rattle.space.specs.declared.Space.{Space}
-use Rattle.space.proofs.Ranges.{inner-of}
 use Rattle.space.proofs.Facts.{region-room}
 use Rattle.vmar_offset.specs.Offset.{slotOf, isFreeRegion, freeRegion, determineOffset}
 use Rattle.vmar_offset.specs.declared.Offset.{Offset}
@@ -32,12 +30,12 @@ use Rattle.vmar_allocate.specs.declared.Allocation.{Allocation}
 use Rattle.vmar_allocate.proofs.Allocates.{no-slot, no-id, made, never-issued, unknown, dead, alive}
 use Rattle.vmar_laws.specs.Arrays.{Arrays}
 use Rattle.vmar_laws.specs.Later.{Later}
-use Rattle.vmar_laws.specs.Search.{FirstFit, NoFit}
+use Rattle.vmar_laws.specs.Search.{FreeIn, FirstFit, NoFit}
 use Rattle.vmar_laws.specs.Allocates.{NewChild, RegionsKept, Accepted, Allocates, AllocatesAll}
 use Rattle.vmar_laws.proofs.Lists.{last-place, early-place}
-use Rattle.vmar_laws.proofs.Slots.{Fills, here, there, kept}
+use Rattle.vmar_laws.proofs.Slots.{Fills, here, there}
 use Rattle.vmar_laws.proofs.Later.{later-none, later-region, found-region}
-use Rattle.vmar_laws.proofs.Search.{room, off-child, off-mapping, hinted, unhinted, no-memory}
+use Rattle.vmar_laws.proofs.Search.{free-in, hinted, unhinted, no-memory}
 use Rattle.vmar_laws.proofs.Child.{Born, child-passes, child-arrays}
 
 -- what an accepted call has shown
@@ -127,20 +125,16 @@ module _ (s : Space) (id : ℕ) (o : Offset) (len flags align : ℕ) where
     fills = record { long = arrays .regions; slot = spare .0; free = spare .1; born = refl }
 
     born : Born s g
-    born =
-        let f = determined-free s r len align o off (shown .at) in
-        let z = room s r off len f in
-        record {
-          live = refl;
-          id = refl;
-          next = shown .next;
-          known = shown .known;
-          slot = home .0;
-          home = home .1;
-          inner = inner-of _ _ _ _ (omega arith) (omega arith);
-          children = off-child s r off len f;
-          mappings = off-mapping s r off len f;
-        }
+    born = record {
+      live = refl;
+      id = refl;
+      next = shown .next;
+      known = shown .known;
+      fits = free-in s r off len (determined-free s r len align o off (shown .at)) (home .0) (home .1);
+    }
+
+    is : regionAt t i ≡ g
+    is = here fills i refl
 
     new-child : NewChild s t r i len flags
     new-child = record {
@@ -152,20 +146,12 @@ module _ (s : Space) (id : ℕ) (o : Offset) (len flags align : ℕ) where
       size = ap (λ (h : Region). h .size) is;
       flags = ap (λ (h : Region). h .flags) is;
       parent = ap (λ (h : Region). h .parent) is;
-      home = (home .0, home .1, kept fills r (home .1));
-      inner =
-          subst (λ (h : Region). inside (h .addr) (h .size) (regionAt t r .addr) (regionAt t r .size) ≡ true) (sym is)
-          (subst (λ (h : Region). inside (g .addr) (g .size) (h .addr) (h .size) ≡ true) (sym (kept fills r (home .1))) (born .inner));
-      children = λ j l a q. subst (λ (h : Region). overlap (regionAt s j .addr) (regionAt s j .size) (h .addr) (h .size) ≡ false) (sym is) (born .children j l a q);
-      mappings = λ j l a q. subst (λ (h : Region). overlap (mappingAt s j .addr) (mappingAt s j .size) (h .addr) (h .size) ≡ false) (sym is) (born .mappings j l a q);
+      fits = subst (λ (h : Region). FreeIn s r (h .addr) (h .size)) (sym is) (born .fits);
       count = refl;
       last = last-place (s .reglist) (s .regcount) i (let e = arrays .reglist in let z = region-room p i (spare .0) (spare .1) in omega arith) (s .regcount) refl;
       found = found-region s i g fills refl (p .ids .issued);
       next = refl;
     }
-      where
-        is : regionAt t i ≡ g
-        is = here fills i refl
 
     accepted-child : (n : ℕ) → s .nextid ≡ n → Accepted s t pages r n o len flags align
     accepted-child n e = record {
@@ -181,8 +167,8 @@ module _ (s : Space) (id : ℕ) (o : Offset) (len flags align : ℕ) where
         mapcount = refl;
       };
       hinted = λ at q. let h = hinted s r len align o off (shown .at) at q in
-          (ap (λ (h : Region). h .addr) (here fills i refl) ∙ ap (λ (x : ℕ). regionAt s r .addr + x) (h .0), h .1);
-      unhinted = λ q. (off, ap (λ (h : Region). h .addr) (here fills i refl), unhinted s r len align o off (shown .at) q);
+          (ap (λ (h : Region). h .addr) is ∙ ap (λ (x : ℕ). regionAt s r .addr + x) (h .0), h .1);
+      unhinted = λ q. (off, ap (λ (h : Region). h .addr) is, unhinted s r len align o off (shown .at) q);
     }
 
   module _ (pages : List ℕ) (arrays : Arrays s) (p : Passes s pages) where

@@ -16,6 +16,7 @@ use Rattle.space.specs.declared.Space.{Space}
 use Rattle.space.proofs.Facts.{region-place, region-room}
 use Rattle.space.proofs.Tests.{clash}
 use Rattle.vmar_laws.specs.Arrays.{Arrays}
+use Rattle.vmar_laws.specs.Search.{FreeIn}
 use Rattle.vmar_laws.proofs.Lists.{last-place, early-place, still-in, listed-more}
 use Rattle.vmar_laws.proofs.Ranges.{flip}
 use Rattle.vmar_laws.proofs.Slots.{Fills, here, there, kept, each, pairs, blanks}
@@ -33,19 +34,13 @@ parent-lives {s} p j l a n =
     let e = q .2 ∙ ap (λ (x : ℕ). regionAt s x .parent) (m .2) in
     (subst (λ (x : ℕ). x < 32) e (w .0), subst (λ (x : ℕ). isRegion s x ≡ true) e (w .1))
 
--- what a child to be has: the next id, a live parent that holds it, and room there
+-- what a child to be has: the next id, known flags, and a region with room for it
 pub record Born (s : Space) (g : Region) : Type 0 where
   pub live : g .live ≡ true
   pub id : g .id ≡ s .nextid
   pub next : s .nextid < 2 ^ 32 - 1
   pub known : knownRegion (g .flags) ≡ true
-  pub slot : g .parent < 32
-  pub home : isRegion s (g .parent) ≡ true
-  pub inner : inside (g .addr) (g .size) (regionAt s (g .parent) .addr) (regionAt s (g .parent) .size) ≡ true
-  pub children : (j : ℕ) → j < 32 → isRegion s j ≡ true → regionAt s j .parent ≡ g .parent
-      → overlap (regionAt s j .addr) (regionAt s j .size) (g .addr) (g .size) ≡ false
-  pub mappings : (j : ℕ) → j < 64 → isMapping s j ≡ true → mappingAt s j .region ≡ g .parent
-      → overlap (mappingAt s j .addr) (mappingAt s j .size) (g .addr) (g .size) ≡ false
+  pub fits : FreeIn s (g .parent) (g .addr) (g .size)
 
 module _ (s : Space) (flags : List ℕ) (p : Passes s flags) (arrays : Arrays s) (i : ℕ) (slot : i < 32) (free : isRegion s i ≡ false) (g : Region) (b : Born s g) where
   abbrev lives : Region → Bool
@@ -78,14 +73,14 @@ module _ (s : Space) (flags : List ℕ) (p : Passes s flags) (arrays : Arrays s)
       (same? k (s .regcount))
 
   no-root : {C : Type 0} → g .parent ≡ noRegion → C
-  no-root e = absurd (let z = b .slot in omega arith)
+  no-root e = absurd (let z = b .fits .slot in omega arith)
 
   tree : Tree t
   tree = record {
     root = places (λ (k : ℕ) (h : Region). h .parent ≡ noRegion → k ≡ 0) no-root (p .tree .root);
     range = places (λ (k : ℕ) (h : Region). h .parent ≡ noRegion → RootRange (h .addr) (h .size)) no-root (p .tree .range);
     parent = places (λ (k : ℕ) (h : Region). (h .parent ≡ noRegion → ⊥) → In (t .reglist) k (h .parent))
-        (λ n. still-in (s .reglist) (s .regcount) i (s .regcount) (g .parent) (omega arith) (p .regions .whole (g .parent) (b .slot) (b .home)))
+        (λ n. still-in (s .reglist) (s .regcount) i (s .regcount) (g .parent) (omega arith) (p .regions .whole (g .parent) (b .fits .slot) (b .fits .live)))
         (λ k l n. still-in (s .reglist) (s .regcount) i k _ (omega arith) (p .tree .parent k l n));
   }
 
@@ -96,7 +91,7 @@ module _ (s : Space) (flags : List ℕ) (p : Passes s flags) (arrays : Arrays s)
   inner : Inside t
   inner = record {
     child = each fills (λ (j : ℕ) (h : Region). (h .parent ≡ noRegion → ⊥) → inside (h .addr) (h .size) (regionAt t (h .parent) .addr) (regionAt t (h .parent) .size) ≡ true)
-        (λ n. still-inside (g .parent) _ _ (b .home) (b .inner))
+        (λ n. still-inside (g .parent) _ _ (b .fits .live) (b .fits .inner))
         (λ j l a n. still-inside (regionAt s j .parent) _ _ (parent-lives p j l a n .1) (p .inner .child j l a n));
     region = λ j l a. let h = p .inner .region j l a in (h .0, subst (λ (x : Region). x .live ≡ true) (sym (kept fills _ (h .1))) (h .1));
     mapping = λ j l a. still-inside (mappingAt s j .region) _ _ (p .inner .region j l a .1) (p .inner .mapping j l a);
@@ -105,13 +100,13 @@ module _ (s : Space) (flags : List ℕ) (p : Passes s flags) (arrays : Arrays s)
   apart-all : Apart t
   apart-all = record {
     children = pairs fills (λ (h k : Region). h .parent ≡ k .parent → overlap (h .addr) (h .size) (k .addr) (k .size) ≡ false)
-        (λ j l a e. flip _ _ _ _ (b .children j l a (sym e)))
-        (λ j l a e. b .children j l a e)
+        (λ j l a e. flip _ _ _ _ (b .fits .children j l a (sym e)))
+        (λ j l a e. b .fits .children j l a e)
         (p .apart .children);
     mappings = p .apart .mappings;
     both = λ j k l h a c. each fills
         (λ (x : ℕ) (v : Region). v .parent ≡ mappingAt s k .region → overlap (v .addr) (v .size) (mappingAt s k .addr) (mappingAt s k .size) ≡ false)
-        (λ e. flip _ _ _ _ (b .mappings k h c (sym e)))
+        (λ e. flip _ _ _ _ (b .fits .mappings k h c (sym e)))
         (λ x m d. p .apart .both x k m h d c)
         j l a;
   }

@@ -16,21 +16,16 @@ use Rattle.space.specs.declared.Mapping.{Mapping}
 use Rattle.space.specs.declared.Space.{Space}
 use Rattle.space.proofs.Facts.{mapping-room}
 use Rattle.vmar_laws.specs.Arrays.{Arrays}
+use Rattle.vmar_laws.specs.Search.{FreeIn}
 use Rattle.vmar_laws.specs.Maps.{PagesGiven}
 use Rattle.vmar_laws.proofs.Lists.{listed-more}
 use Rattle.vmar_laws.proofs.Slots.{Fills, here, there, each, pairs, blanks}
 use Rattle.vmar_laws.proofs.Ranges.{flip}
 
--- what a mapping to be has: a live region that holds it, and room there, whole pages and known permissions
+-- what a mapping to be has: whole pages, known permissions, and a region with room for it
 pub record Born (s : Space) (m : Mapping) : Type 0 where
   pub live : m .live ≡ true
-  pub slot : m .region < 32
-  pub home : isRegion s (m .region) ≡ true
-  pub inner : inside (m .addr) (m .size) (regionAt s (m .region) .addr) (regionAt s (m .region) .size) ≡ true
-  pub children : (j : ℕ) → j < 32 → isRegion s j ≡ true → regionAt s j .parent ≡ m .region
-      → overlap (regionAt s j .addr) (regionAt s j .size) (m .addr) (m .size) ≡ false
-  pub mappings : (j : ℕ) → j < 64 → isMapping s j ≡ true → mappingAt s j .region ≡ m .region
-      → overlap (mappingAt s j .addr) (mappingAt s j .size) (m .addr) (m .size) ≡ false
+  pub fits : FreeIn s (m .region) (m .addr) (m .size)
   pub paged : Paged m
   pub known : knownPage (m .permissions) ≡ true
 
@@ -64,20 +59,20 @@ module _ (s : Space) (f : List ℕ) (p : Passes s f) (arrays : Arrays s) (i : �
   inner : Inside t
   inner = record {
     child = p .inner .child;
-    region = each fills (λ (j : ℕ) (n : Mapping). (n .region < 32) × (isRegion s (n .region) ≡ true)) (b .slot, b .home) (p .inner .region);
-    mapping = each fills (λ (j : ℕ) (n : Mapping). inside (n .addr) (n .size) (regionAt s (n .region) .addr) (regionAt s (n .region) .size) ≡ true) (b .inner) (p .inner .mapping);
+    region = each fills (λ (j : ℕ) (n : Mapping). (n .region < 32) × (isRegion s (n .region) ≡ true)) (b .fits .slot, b .fits .live) (p .inner .region);
+    mapping = each fills (λ (j : ℕ) (n : Mapping). inside (n .addr) (n .size) (regionAt s (n .region) .addr) (regionAt s (n .region) .size) ≡ true) (b .fits .inner) (p .inner .mapping);
   }
 
   apart-all : Apart t
   apart-all = record {
     children = p .apart .children;
     mappings = pairs fills (λ (n k : Mapping). n .region ≡ k .region → overlap (n .addr) (n .size) (k .addr) (k .size) ≡ false)
-        (λ j l a e. flip _ _ _ _ (b .mappings j l a (sym e)))
-        (λ j l a e. b .mappings j l a e)
+        (λ j l a e. flip _ _ _ _ (b .fits .mappings j l a (sym e)))
+        (λ j l a e. b .fits .mappings j l a e)
         (p .apart .mappings);
     both = λ j k l h a c. each fills
         (λ (x : ℕ) (n : Mapping). regionAt s j .parent ≡ n .region → overlap (regionAt s j .addr) (regionAt s j .size) (n .addr) (n .size) ≡ false)
-        (λ e. b .children j l a e)
+        (λ e. b .fits .children j l a e)
         (λ x q d. p .apart .both j x l q a d)
         k h c;
   }

@@ -12,12 +12,11 @@ use Rattle.scan.proofs.Scans.{tell, before-first}
 use Rattle.vm.specs.Align.{multiple}
 use Rattle.refusal.specs.declared.Refusal.{Refusal}
 use Rattle.refusal.specs.declared.Refusal.the-variants.{InvalidArgs, AccessDenied, NoMemory, BadState, NoSlot, BadHandle}
-use Rattle.space.specs.Range.{overlap, inside}
 use Rattle.space.specs.Space.{regionAt, mappingAt, isRegion, isMapping, withMapping, blankMapping}
 use Rattle.space.specs.Passes.{Passes, Paged}
 use Rattle.space.specs.declared.Mapping.{Mapping}
 use Rattle.space.specs.declared.Space.{Space}
-use Rattle.space.proofs.Ranges.{inner-of, sum-fits}
+use Rattle.space.proofs.Ranges.{inner, sum-fits}
 use Rattle.space.proofs.Facts.{mapping-room, region-end}
 use Rattle.vmar_offset.specs.Offset.{slotOf, isFreeMapping, freeMapping, determineOffset}
 use Rattle.vmar_offset.specs.declared.Offset.{Offset}
@@ -33,12 +32,12 @@ use Rattle.vmar_map.specs.declared.Tested.the-variants as test
 use Rattle.vmar_map.proofs.Maps.{odd-offset, odd-length, over, denied, faulting, past-vmo, in-vmo, unaligned, too-many, no-slot, made, dead, alive, never-issued, unknown-permissions, unknown-flags, known-all}
 use Rattle.vmar_laws.specs.Arrays.{Arrays}
 use Rattle.vmar_laws.specs.Later.{Later}
-use Rattle.vmar_laws.specs.Search.{FirstFit, NoFit}
+use Rattle.vmar_laws.specs.Search.{FreeIn, FirstFit, NoFit}
 use Rattle.vmar_laws.specs.Maps.{NewMapping, MappingsKept, PagesGiven, Accepted, Maps, MapsAll}
 use Rattle.vmar_laws.proofs.Lists.{last-place, early-place}
 use Rattle.vmar_laws.proofs.Slots.{Fills, here, there}
 use Rattle.vmar_laws.proofs.Later.{later-none, later-mapping}
-use Rattle.vmar_laws.proofs.Search.{room, off-child, off-mapping, hinted, unhinted, no-memory}
+use Rattle.vmar_laws.proofs.Search.{free-in, hinted, unhinted, no-memory}
 use Rattle.vmar_laws.proofs.Pages.{filled-length, pages-given}
 use Rattle.vmar_laws.proofs.Mapping.{Born, zeros, mapping-passes, mapping-arrays}
 
@@ -206,21 +205,17 @@ module _ (s : Space) (f : List ℕ) (id : ℕ) (o : Offset) (vmo at len p fl : �
 
     born : Born s m
     born =
-        let w = determined-free s r len 4096 o off (shown .found) in
-        let z = room s r off len w in
+        let w = free-in s r off len (determined-free s r len 4096 o off (shown .found)) (home .0) (home .1) in
+        let z = inner _ _ _ _ (w .inner) in
         let e = region-end passes r (home .0) (home .1) in
         record {
           live = refl;
-          slot = home .0;
-          home = home .1;
-          inner = inner-of _ _ _ _ (omega arith) (omega arith);
-          children = off-child s r off len w;
-          mappings = off-mapping s r off len w;
+          fits = w;
           paged = record {
             addr = shown .aligned;
             size = shown .fine .size;
             offset = shown .fine .offset;
-            end = omega arith;
+            end = omega (arith, z .1);
             vmo-end = shown .fine .end;
             few = few;
           };
@@ -244,10 +239,7 @@ module _ (s : Space) (f : List ℕ) (id : ℕ) (o : Offset) (vmo at len p fl : �
       vmo = ap (λ (n : Mapping). n .vmo) is;
       offset = ap (λ (n : Mapping). n .offset) is;
       permissions = ap (λ (n : Mapping). n .permissions) is;
-      home = (home .0, home .1);
-      inner = subst (λ (n : Mapping). inside (n .addr) (n .size) (regionAt s r .addr) (regionAt s r .size) ≡ true) (sym is) (born .inner);
-      children = λ j l a q. subst (λ (n : Mapping). overlap (regionAt s j .addr) (regionAt s j .size) (n .addr) (n .size) ≡ false) (sym is) (born .children j l a q);
-      mappings = λ j l a q. subst (λ (n : Mapping). overlap (mappingAt s j .addr) (mappingAt s j .size) (n .addr) (n .size) ≡ false) (sym is) (born .mappings j l a q);
+      fits = subst (λ (n : Mapping). FreeIn s r (n .addr) (n .size)) (sym is) (born .fits);
       count = refl;
       last = last-place (s .maplist) (s .mapcount) i (let e = arrays .maplist in let z = mapping-room passes i (spare .0) (spare .1) in omega arith) (s .mapcount) refl;
     }

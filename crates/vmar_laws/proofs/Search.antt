@@ -17,6 +17,7 @@ use Rattle.space.specs.Space.{regionAt, mappingAt, isRegion, isMapping}
 use Rattle.space.specs.declared.Region.{Region}
 use Rattle.space.specs.declared.Mapping.{Mapping}
 use Rattle.space.specs.declared.Space.{Space}
+use Rattle.space.proofs.Ranges.{inner-of}
 use Rattle.space.proofs.Tests.{clash}
 use Rattle.vmar_offset.specs.Offset.{childMeets, mappingMeets, meetsChild, meetsMapping, testMap, takesChild, takesMapping, childEnd, mappingEnd, findFreeArea, found, determineOffset}
 use Rattle.vmar_offset.specs.declared.Offset.{Offset}
@@ -25,7 +26,7 @@ use Rattle.vmar_offset.specs.declared.OffsetResult.{OffsetResult}
 use Rattle.vmar_offset.specs.declared.OffsetResult.the-variants as result
 use Rattle.vmar_offset.proofs.Offsets.{on-child, off-children, at-zero, at-child, at-mapping, nowhere, odd-length, asked-odd, asked-full, asked-free, too-large, searched}
 use Rattle.vmar_offset.proofs.Found.{free-fits}
-use Rattle.vmar_laws.specs.Search.{NoChild, NoMapping, FirstFit, NoFit}
+use Rattle.vmar_laws.specs.Search.{FreeIn, NoChild, NoMapping, FirstFit, NoFit, OneFit}
 use Rattle.vmar_laws.specs.Search as fit
 
 -- a child of r that does not meet a range does not overlap it, nor does a mapping
@@ -37,11 +38,8 @@ apart-mapping : (m : Mapping) (r b n : ℕ) → mappingMeets m r b n ≡ false �
 unfolding mappingMeets
 apart-mapping m r b n e a q = rw (a, eq-eqb (m .region) r q) at e
 
--- what is free overlaps no child and no mapping of its region
+-- what is free lies in its region and overlaps no child and no mapping of it
 module _ (s : Space) (r off len : ℕ) (t : testMap s r off len ≡ true) where
-  pub room : off + len ≤ regionAt s r .size
-  room = leb-true _ _ (free-fits s r off len t)
-
   children-off : some (meetsChild s r (regionAt s r .addr + off) len) 0 32 ≡ false
   children-off =
       ⊎-elim
@@ -52,15 +50,16 @@ module _ (s : Space) (r off len : ℕ) (t : testMap s r off len ≡ true) where
   mappings-off : some (meetsMapping s r (regionAt s r .addr + off) len) 0 64 ≡ false
   mappings-off = not-true _ (sym (off-children s r off len (free-fits s r off len t) children-off) ∙ t)
 
-  pub off-child : (j : ℕ) → j < 32 → isRegion s j ≡ true → regionAt s j .parent ≡ r
-      → overlap (regionAt s j .addr) (regionAt s j .size) (regionAt s r .addr + off) len ≡ false
-  off-child j l a q =
-      apart-child (regionAt s j) r (regionAt s r .addr + off) len (none-passes (meetsChild s r (regionAt s r .addr + off) len) 0 32 j children-off (omega arith) l) a q
-
-  pub off-mapping : (j : ℕ) → j < 64 → isMapping s j ≡ true → mappingAt s j .region ≡ r
-      → overlap (mappingAt s j .addr) (mappingAt s j .size) (regionAt s r .addr + off) len ≡ false
-  off-mapping j l a q =
-      apart-mapping (mappingAt s j) r (regionAt s r .addr + off) len (none-passes (meetsMapping s r (regionAt s r .addr + off) len) 0 64 j mappings-off (omega arith) l) a q
+  pub free-in : r < 32 → isRegion s r ≡ true → FreeIn s r (regionAt s r .addr + off) len
+  free-in l a =
+      let z : off + len ≤ regionAt s r .size = leb-true _ _ (free-fits s r off len t) in
+      record {
+        slot = l;
+        live = a;
+        inner = inner-of _ _ _ _ (omega arith) (omega arith);
+        children = λ j h. apart-child (regionAt s j) r _ _ (none-passes (meetsChild s r (regionAt s r .addr + off) len) 0 32 j children-off (omega arith) h);
+        mappings = λ j h. apart-mapping (mappingAt s j) r _ _ (none-passes (meetsMapping s r (regionAt s r .addr + off) len) 0 64 j mappings-off (omega arith) h);
+      }
 
 same-ok : {a b : ℕ} → _≡_ {A = OffsetResult} (result.Ok a) (result.Ok b) → a ≡ b
 same-ok e = cc
@@ -171,3 +170,31 @@ module _ (s : Space) (r len align : ℕ) where
           (λ (t : ltb (regionAt s r .size) len ≡ true). invalid-none (too-large s r len align o m q t ∙ e))
           (λ (t : ltb (regionAt s r .size) len ≡ false). (q, found-none search-all (searched s r len align o m q t ∙ e)))
           (tell (ltb (regionAt s r .size) len))
+
+-- the first of two places that pass is not after the other
+one-place : (p : ℕ → Bool) (j k : ℕ) → p j ≡ true → p k ≡ true → ((i : ℕ) → i < j → p i ≡ false) → ((i : ℕ) → i < k → p i ≡ false) → j ≡ k
+one-place p j k a b before-j before-k =
+    ⊎-elim
+    (λ (l : j < k). clash (p j) a (before-k j l))
+    (λ (l : k ≤ j). ⊎-elim (λ (h : k < j). clash (p k) b (before-j k h)) (λ (h : j ≤ k). omega arith) (below? k j))
+    (below? j k)
+
+module _ (s : Space) (r len align : ℕ) where
+  only : (a b : ℕ) → FirstFit s r len align a → FirstFit s r len align b → a ≡ b
+  only _ _ (fit.start t) (fit.start u) = refl
+  only _ _ (fit.start t) (fit.child k l n u) = clash (testMap s r 0 len) t (n .start)
+  only _ _ (fit.start t) (fit.mapping k l n m u) = clash (testMap s r 0 len) t (n .start)
+  only _ _ (fit.child k l n u) (fit.start t) = clash (testMap s r 0 len) t (n .start)
+  only _ _ (fit.child k l n u) (fit.child j h m w) = ap (childEnd s r) (one-place (takesChild s r len align) k j u w (n .before) (m .before))
+  only _ _ (fit.child k l n u) (fit.mapping j h m q w) = clash (takesChild s r len align k) u (m .before k l)
+  only _ _ (fit.mapping k l n m u) (fit.start t) = clash (testMap s r 0 len) t (n .start)
+  only _ _ (fit.mapping k l n m u) (fit.child j h q w) = clash (takesChild s r len align j) w (n .before j h)
+  only _ _ (fit.mapping k l n m u) (fit.mapping j h q v w) = ap (mappingEnd s r) (one-place (takesMapping s r len align) k j u w m v)
+
+  none-fits : (a : ℕ) → NoFit s r len align → FirstFit s r len align a → ⊥
+  none-fits _ n (fit.start t) = clash (testMap s r 0 len) t (n .children .start)
+  none-fits _ n (fit.child k l m u) = clash (takesChild s r len align k) u (n .children .before k l)
+  none-fits _ n (fit.mapping k l m q u) = clash (takesMapping s r len align k) u (n .mappings k l)
+
+pub one-fit : OneFit
+one-fit = record { only = only; none = none-fits }

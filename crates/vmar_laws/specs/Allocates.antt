@@ -8,8 +8,7 @@ use mathlib.Core.List.{List}
 use Rattle.vm.specs.Align.{multiple}
 use Rattle.refusal.specs.declared.Refusal.{Refusal}
 use Rattle.refusal.specs.declared.Refusal.the-variants.{NoMemory}
-use Rattle.space.specs.Range.{overlap, inside}
-use Rattle.space.specs.Space.{regionAt, mappingAt, isRegion, isMapping, regionPlace}
+use Rattle.space.specs.Space.{regionAt, isRegion, regionPlace}
 use Rattle.space.specs.Passes.{Passes}
 use Rattle.space.specs.declared.Space.{Space}
 use Rattle.vmar_offset.specs.Offset.{slotOf, freeRegion}
@@ -19,7 +18,7 @@ use Rattle.vmar_allocate.specs.Allocate.{allocated}
 use Rattle.vmar_allocate.specs.declared.AllocateResult.the-variants as result
 use Rattle.vmar_laws.specs.Arrays.{Arrays}
 use Rattle.vmar_laws.specs.Later.{Later}
-use Rattle.vmar_laws.specs.Search.{FirstFit, NoFit}
+use Rattle.vmar_laws.specs.Search.{FreeIn, FirstFit, NoFit}
 
 -- t has in slot i a new child of the region in slot r of s, of this length and these flags
 pub record NewChild (s t : Space) (r i len f : ℕ) : Type 0 where
@@ -33,14 +32,8 @@ pub record NewChild (s t : Space) (r i len f : ℕ) : Type 0 where
   pub size : regionAt t i .size ≡ len
   pub flags : regionAt t i .flags ≡ f
   pub parent : regionAt t i .parent ≡ r
-  -- "inside its region", which lives and stays as it was
-  pub home : (r < 32) × (isRegion s r ≡ true) × (regionAt t r ≡ regionAt s r)
-  pub inner : inside (regionAt t i .addr) (regionAt t i .size) (regionAt t r .addr) (regionAt t r .size) ≡ true
-  -- "no two of a region overlap"
-  pub children : (j : ℕ) → j < 32 → isRegion s j ≡ true → regionAt s j .parent ≡ r
-      → overlap (regionAt s j .addr) (regionAt s j .size) (regionAt t i .addr) (regionAt t i .size) ≡ false
-  pub mappings : (j : ℕ) → j < 64 → isMapping s j ≡ true → mappingAt s j .region ≡ r
-      → overlap (mappingAt s j .addr) (mappingAt s j .size) (regionAt t i .addr) (regionAt t i .size) ≡ false
+  -- it lies in that region and overlaps nothing there
+  pub fits : FreeIn s r (regionAt t i .addr) (regionAt t i .size)
   -- it is last in the list
   pub count : t .regcount ≡ s .regcount + 1
   pub last : regionPlace t (s .regcount) ≡ i

@@ -7,8 +7,7 @@ use mathlib.Core.Bool.{Bool, true, false}
 use mathlib.Core.List.{List}
 use Rattle.refusal.specs.declared.Refusal.{Refusal}
 use Rattle.refusal.specs.declared.Refusal.the-variants.{NoMemory}
-use Rattle.space.specs.Range.{overlap, inside}
-use Rattle.space.specs.Space.{regionAt, mappingAt, isRegion, isMapping, mappingPlace}
+use Rattle.space.specs.Space.{regionAt, mappingAt, isMapping, mappingPlace}
 use Rattle.space.specs.Passes.{Passes, pageAt}
 use Rattle.space.specs.declared.Space.{Space}
 use Rattle.vmar_offset.specs.Offset.{slotOf, freeMapping}
@@ -18,7 +17,7 @@ use Rattle.vmar_map.specs.Map.{mapped}
 use Rattle.vmar_map.specs.declared.MapExtResult.the-variants as result
 use Rattle.vmar_laws.specs.Arrays.{Arrays}
 use Rattle.vmar_laws.specs.Later.{Later}
-use Rattle.vmar_laws.specs.Search.{FirstFit, NoFit}
+use Rattle.vmar_laws.specs.Search.{FreeIn, FirstFit, NoFit}
 
 -- t has in slot i a new mapping of the region in slot r of s: of VMO v from `at` on, of this length, with permissions p
 pub record NewMapping (s t : Space) (r i v at len p : ℕ) : Type 0 where
@@ -33,14 +32,8 @@ pub record NewMapping (s t : Space) (r i v at len p : ℕ) : Type 0 where
   pub vmo : mappingAt t i .vmo ≡ v
   pub offset : mappingAt t i .offset ≡ at
   pub permissions : mappingAt t i .permissions ≡ p
-  -- "inside its region", which lives
-  pub home : (r < 32) × (isRegion s r ≡ true)
-  pub inner : inside (mappingAt t i .addr) (mappingAt t i .size) (regionAt s r .addr) (regionAt s r .size) ≡ true
-  -- "no two of a region overlap"
-  pub children : (j : ℕ) → j < 32 → isRegion s j ≡ true → regionAt s j .parent ≡ r
-      → overlap (regionAt s j .addr) (regionAt s j .size) (mappingAt t i .addr) (mappingAt t i .size) ≡ false
-  pub mappings : (j : ℕ) → j < 64 → isMapping s j ≡ true → mappingAt s j .region ≡ r
-      → overlap (mappingAt s j .addr) (mappingAt s j .size) (mappingAt t i .addr) (mappingAt t i .size) ≡ false
+  -- it lies in that region and overlaps nothing there
+  pub fits : FreeIn s r (mappingAt t i .addr) (mappingAt t i .size)
   -- it is last in the list
   pub count : t .mapcount ≡ s .mapcount + 1
   pub last : mappingPlace t (s .mapcount) ≡ i
