@@ -6,14 +6,13 @@ use mathlib.Core.List.{List}
 use mathlib.Core.Logic.{inl, inr, ⊎-elim}
 use native.Mathlib.Omega.{arith}
 use lib.ListN.{length, getD, replicate, length-replicate, length-set, getD-replicate, List·getD-eq-default}
-use Rattle.paging.proofs.Cases.{same?, below?}
+use Rattle.paging.proofs.Cases.{same?, below?, clash}
 use Rattle.common.specs.Flags.{knownRegion}
 use Rattle.space.specs.Space.{regionAt, mappingAt, isRegion, isMapping, regionPlace, blankRegion, blankMapping, noRegion}
 use Rattle.space.specs.Passes.{In, RootRange, Listed, Tree, Inside, Apart, Known, Ids, Blank, Passes}
 use Rattle.space.specs.declared.Region.{Region}
 use Rattle.space.specs.declared.Mapping.{Mapping}
 use Rattle.space.specs.declared.Space.{Space}
-use Rattle.space.proofs.Tests.{clash}
 use Rattle.vmar_laws.specs.Arrays.{Arrays}
 use Rattle.vmar_laws.proofs.Slots.{Fills, here, there, each, pairs, blanks}
 use Rattle.vmar.specs.Calls.{newSpace}

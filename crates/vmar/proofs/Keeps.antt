@@ -24,7 +24,7 @@ use Rattle.vmar_laws.specs.Maps as mapping
 use Rattle.vmar_laws.proofs.Later.{later-none, later-more}
 use Rattle.vmar_laws.proofs.Allocates.{allocates}
 use Rattle.vmar_laws.proofs.Maps.{maps}
-use Rattle.vmar.specs.Calls.{AllocateFits, MapFits, FlagsDone, Ordered, bad-space, bad-table, done}
+use Rattle.vmar.specs.Calls.{AllocateFits, MapFits, FlagsDone, UserRangeDone, Ordered, bad-space, bad-table, done}
 use Rattle.vmar.specs.Laws.{Step, Keeps, Means}
 
 -- nothing changes
@@ -91,9 +91,9 @@ module _ (s : Space) (f p : List ℕ) (base used id : ℕ) (o : Offset) (vmo vmo
       (maps .holds s f arrays u id o vmo vmo-len at len permissions flags faults .accepted addr (sym (ap (λ (x : MapDone). x .result) e) ∙ q))
 
 -- a lookup changes nothing
-looked-step : {P : Type 0} {s : Space} {f : List ℕ} {a b out : FlagsDone} → Arrays s → a .space ≡ s → b .space ≡ s → Answered P a b out → Step s (out .space) f f
-looked-step arrays x y (refused n e) = still arrays (ap (λ (d : FlagsDone). d .space) e ∙ x) refl
-looked-step arrays x y (taken p e) = still arrays (ap (λ (d : FlagsDone). d .space) e ∙ y) refl
+looked-step : {A P : Type 0} (space : A → Space) {s : Space} {f : List ℕ} {a b out : A} → Arrays s → space a ≡ s → space b ≡ s → Answered P a b out → Step s (space out) f f
+looked-step space arrays x y (refused n e) = still arrays (ap space e ∙ x) refl
+looked-step space arrays x y (taken p e) = still arrays (ap space e ∙ y) refl
 
 ordered-step : {P Q : Type 0} {s : Space} {f : List ℕ} {a b c out : FlagsDone} → Arrays s → a .space ≡ s → b .space ≡ s → c .space ≡ s → Ordered P Q a b c out
     → Step s (out .space) f f
@@ -105,7 +105,8 @@ pub keeps : Keeps
 keeps = record {
   allocate = λ s f id o len flags align out arrays. allocate-step s f id o len flags align arrays;
   map = λ s f p base used id o vmo vmo-len at len permissions flags faults out arrays. map-step s f p base used id o vmo vmo-len at len permissions flags faults arrays;
-  mapping-flags = λ s f id x out arrays. looked-step arrays refl refl;
+  mapping-flags = λ s f id x out arrays. looked-step (λ (d : FlagsDone). d .space) arrays refl refl;
+  user-range = λ s f id addr len access out arrays. looked-step (λ (d : UserRangeDone). d .space) arrays refl refl;
   vaddr-flags = λ s f p base used id x out arrays. ordered-step arrays refl refl refl;
   more = more;
 }

@@ -21,5 +21,6 @@ once = record {
   allocate = λ s f id o len flags align a b. only;
   map = λ s f p base used id o vmo vmo-len at len permissions flags faults a b. only-ordered;
   mapping-flags = λ s f id x a b. only;
+  user-range = λ s f id addr len access a b. only;
   vaddr-flags = λ s f p base used id x a b. only-ordered;
 }

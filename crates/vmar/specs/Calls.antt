@@ -1,5 +1,5 @@
 -- The calls on a space, whole. Document 01, 'Refusal numbers': "Order: 12, 13, 11, ..", "Only what is taken is tested"; "A refusal gives value 0 and changes nothing
--- anywhere". The cores' definitions (vmar_allocate, vmar_map, vmar_lookup) go from 11 on; last, the promises, where 12 and 13 go by Passes and Good.
+-- anywhere". The cores' definitions (vmar_allocate, vmar_map, vmar_lookup, vmar_user_range) go from 11 on; last, the promises, where 12 and 13 go by Passes and Good.
 use Prim.Native.Nat.{ℕ, _/_}
 use mathlib.Core.Path.{_≡_}
 use mathlib.Core.Bool.{Bool, true}
@@ -23,6 +23,9 @@ use Rattle.vmar_map.specs.Map as map
 use Rattle.vmar_lookup.specs.Lookup.{mappingFlags, vaddrFlags}
 use Rattle.vmar_lookup.specs.declared.FlagsResult.{FlagsResult}
 use Rattle.vmar_lookup.specs.declared.FlagsResult.the-variants as flags
+use Rattle.vmar_user_range.specs.UserRange.{userRange}
+use Rattle.vmar_user_range.specs.declared.UserRangeResult.{UserRangeResult}
+use Rattle.vmar_user_range.specs.declared.UserRangeResult.the-variants as user
 
 -- a fresh space: the root with id 0 in slot 0, flags CAN_MAP_READ, CAN_MAP_WRITE, CAN_MAP_EXECUTE and CAN_MAP_SPECIFIC as in the Rust
 abbrev pub newSpace : ℕ → ℕ → Space
@@ -45,6 +48,15 @@ pub record FlagsDone : Type 0 where
 abbrev pub looked : Space → FlagsResult → FlagsDone
 looked s r = record { result = r; space = s }
 
+-- the answer of a check of a range, and the space
+pub record UserRangeDone : Type 0 where
+  pub result : UserRangeResult
+  pub space : Space
+
+-- it changes nothing either
+abbrev pub seen : Space → UserRangeResult → UserRangeDone
+seen s r = record { result = r; space = s }
+
 -- 11, then "On a dead region lookups give 5", then the lookup
 unfoldable pub flagsCall : Space → List ℕ → ℕ → ℕ → FlagsResult
 flagsCall s f id x = pick (ltb id (s .nextid)) (pick (eqb (slotOf s id) 32) (flags.Refused BadState) (mappingFlags s f x (slotOf s id))) (flags.Refused BadHandle)
@@ -66,6 +78,9 @@ module _ (s : Space) (f : List ℕ) where
 
   abbrev pub FlagsFit : ℕ → ℕ → FlagsDone → Type 0
   FlagsFit id x out = Answered (Passes s f) (looked s (flags.Refused BadSpace)) (looked s (flagsCall s f id x)) out
+
+  abbrev pub UserRangeFits : ℕ → ℕ → ℕ → ℕ → UserRangeDone → Type 0
+  UserRangeFits id addr len access out = Answered (Passes s f) (seen s (user.Refused BadSpace)) (seen s (userRange s f id addr len access)) out
 
   module _ (p : List ℕ) (base used : ℕ) where
     abbrev pub MapFits : ℕ → Offset → ℕ → ℕ → ℕ → ℕ → ℕ → ℕ → Bool → MapDone → Type 0

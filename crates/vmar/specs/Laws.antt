@@ -17,7 +17,7 @@ use Rattle.vmar_laws.specs.Arrays.{Arrays}
 use Rattle.vmar_laws.specs.Later.{Later}
 use Rattle.vmar_laws.specs.Allocates as allocates
 use Rattle.vmar_laws.specs.Maps as maps
-use Rattle.vmar.specs.Calls.{newSpace, AllocateFits, MapFits, FlagsFit, VaddrFits, FlagsDone}
+use Rattle.vmar.specs.Calls.{newSpace, AllocateFits, MapFits, FlagsFit, UserRangeFits, VaddrFits, FlagsDone, UserRangeDone}
 
 -- "a proof shows that no second answer fits"
 pub record Once : Type 0 where
@@ -28,6 +28,7 @@ pub record Once : Type 0 where
       → MapFits s f p base used id o vmo vmo-len at len permissions flags faults b
       → a ≡ b
   pub mapping-flags : (s : Space) (f : List ℕ) (id x : ℕ) (a b : FlagsDone) → FlagsFit s f id x a → FlagsFit s f id x b → a ≡ b
+  pub user-range : (s : Space) (f : List ℕ) (id addr len access : ℕ) (a b : UserRangeDone) → UserRangeFits s f id addr len access a → UserRangeFits s f id addr len access b → a ≡ b
   pub vaddr-flags : (s : Space) (f p : List ℕ) (base used id x : ℕ) (a b : FlagsDone) → VaddrFits s f p base used id x a → VaddrFits s f p base used id x b → a ≡ b
 
 -- "the caller zeroes flags"
@@ -58,6 +59,7 @@ pub record Keeps : Type 0 where
   pub map : (s : Space) (f p : List ℕ) (base used id : ℕ) (o : Offset) (vmo vmo-len at len permissions flags : ℕ) (faults : Bool) (out : MapDone) → Arrays s
       → MapFits s f p base used id o vmo vmo-len at len permissions flags faults out → Step s (out .space) f (out .flags)
   pub mapping-flags : (s : Space) (f : List ℕ) (id x : ℕ) (out : FlagsDone) → Arrays s → FlagsFit s f id x out → Step s (out .space) f f
+  pub user-range : (s : Space) (f : List ℕ) (id addr len access : ℕ) (out : UserRangeDone) → Arrays s → UserRangeFits s f id addr len access out → Step s (out .space) f f
   pub vaddr-flags : (s : Space) (f p : List ℕ) (base used id x : ℕ) (out : FlagsDone) → Arrays s → VaddrFits s f p base used id x out → Step s (out .space) f f
   pub more : (s t u : Space) (f g h : List ℕ) → Step s t f g → Step t u g h → Step s u f h
 

@@ -8,6 +8,8 @@ use Rattle.vmar_map.specs.declared.MapExtResult.{MapExtResult}
 use Rattle.vmar_map.specs.declared.MapExtResult.the-variants as map
 use Rattle.vmar_lookup.specs.declared.FlagsResult.{FlagsResult}
 use Rattle.vmar_lookup.specs.declared.FlagsResult.the-variants as flags
+use Rattle.vmar_user_range.specs.declared.UserRangeResult.{UserRangeResult}
+use Rattle.vmar_user_range.specs.declared.UserRangeResult.the-variants as user
 
 pub record Reply : Type 0 where
   pub number : ℕ
@@ -30,3 +32,8 @@ mapReply (map.Refused r) = refusal r
 abbrev pub flagsReply : FlagsResult → Reply
 flagsReply (flags.Flags f) = record { number = 0; value = f .0 }
 flagsReply (flags.Refused r) = refusal r
+
+-- nothing but that it is allowed
+abbrev pub userRangeReply : UserRangeResult → Reply
+userRangeReply user.Allowed = record { number = 0; value = 0 }
+userRangeReply (user.Refused r) = refusal r

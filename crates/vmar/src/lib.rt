@@ -13,11 +13,12 @@ use vmar_lookup::FlagsResult;
 use vmar_map::MapExtResult;
 use vmar_map::Vmo;
 use vmar_offset::Offset;
+use vmar_user_range::UserRangeResult;
 ghost use mathlib.Core.Path.{_≡_};
 ghost use Prim.Native.Nat.{_/_};
 ghost use Rattle.form.specs.Form.{Good};
 ghost use Rattle.space.specs.Passes.{Passes, Passing};
-ghost use Rattle.vmar.specs.Calls.{newSpace, AllocateFits, MapFits, flagsCall, FlagsFit, vaddrCall, VaddrFits};
+ghost use Rattle.vmar.specs.Calls.{newSpace, AllocateFits, MapFits, flagsCall, FlagsFit, UserRangeFits, vaddrCall, VaddrFits};
 
 const USER_ASPACE_BASE: u64 = 0x20_0000;
 
@@ -48,6 +49,11 @@ pub struct Mapped {
 
 pub struct FlagsFound {
     pub result: FlagsResult,
+    pub space: AddressSpace,
+}
+
+pub struct UserRangeChecked {
+    pub result: UserRangeResult,
     pub space: AddressSpace,
 }
 
@@ -279,6 +285,32 @@ impl AddressSpace {
         }
         let result = vaddr_flags_in(s, pool, base, used, region, vaddr);
         FlagsFound {
+            result: result,
+            space: self,
+        }
+    }
+
+    // Whether a user may access every page that the range touches.
+    pub fn check_user_range(
+        self,
+        flags: &[u8],
+        region: u64,
+        addr: VirtAddr,
+        len: u64,
+        access: MMUFlags,
+    ) -> UserRangeChecked
+        ensures { λ x. ⌜ UserRangeFits (self .space) (now (flags .entry)) region addr len (access .0) (record { result = x .result; space = x .space .space }) ⌝ }
+    {
+        let s = self.space;
+        if !space_check::is_good(s, flags) {
+            let no = UserRangeResult::Refused(Refusal::BadSpace);
+            return UserRangeChecked {
+                result: no,
+                space: self,
+            };
+        }
+        let result = vmar_user_range::check_user_range(s, flags, region, addr, len, access);
+        UserRangeChecked {
             result: result,
             space: self,
         }

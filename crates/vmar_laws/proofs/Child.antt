@@ -6,7 +6,7 @@ use mathlib.Core.List.{List}
 use mathlib.Core.Logic.{_⊎_, inl, inr, ⊎-elim}
 use native.Mathlib.Omega.{arith}
 use lib.ListN.{length, set, length-set}
-use Rattle.paging.proofs.Cases.{same?}
+use Rattle.paging.proofs.Cases.{same?, clash}
 use Rattle.common.specs.Flags.{knownRegion}
 use Rattle.space.specs.Range.{overlap, inside}
 use Rattle.space.specs.Space.{regionAt, mappingAt, isRegion, isMapping, regionPlace, withRegion, noRegion, blankRegion}
@@ -14,7 +14,6 @@ use Rattle.space.specs.Passes.{In, RootRange, Tree, Inside, Apart, Known, Ids, 
 use Rattle.space.specs.declared.Region.{Region}
 use Rattle.space.specs.declared.Space.{Space}
 use Rattle.space.proofs.Facts.{region-place, region-room}
-use Rattle.space.proofs.Tests.{clash}
 use Rattle.vmar_laws.specs.Arrays.{Arrays}
 use Rattle.vmar_laws.specs.Search.{FreeIn}
 use Rattle.vmar_laws.proofs.Lists.{last-place, early-place, still-in, listed-more}

@@ -7,11 +7,10 @@ use mathlib.Core.Logic.{_⊎_, inl, inr, ⊎-elim}
 use native.Mathlib.Omega.{arith}
 use lib.ListN.{length, getD, set}
 use lib.Seq.{getD-set-same, getD-set-other}
-use Rattle.paging.proofs.Cases.{same?, below?}
+use Rattle.paging.proofs.Cases.{same?, below?, clash}
 use Rattle.scan.specs.Scan.{first}
 use Rattle.scan.proofs.Scans.{first-passes, first-most, before-first}
 use Rattle.space.specs.Passes.{In, Listed}
-use Rattle.space.proofs.Tests.{clash}
 
 -- what one place holds is not what another does, where one is live and the other is not
 pub parted : (lives : ℕ → Bool) (i j : ℕ) → lives i ≡ false → lives j ≡ true → j ≡ i → ⊥

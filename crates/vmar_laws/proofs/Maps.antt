@@ -7,7 +7,7 @@ use mathlib.Core.Logic.{_⊎_, inl, inr, ⊎-elim}
 use native.Mathlib.Omega.{arith}
 use lib.Dec.{leb, ltb, eqb}
 use borrow.Author.Tests.{ltb-false, eqb-true, eqb-false, not-false}
-use Rattle.common.specs.Flags.{knownPage}
+use Rattle.common.specs.Flags.{knownPage, grants, rights}
 use Rattle.scan.proofs.Scans.{tell, before-first}
 use Rattle.vm.specs.Align.{multiple}
 use Rattle.refusal.specs.declared.Refusal.{Refusal}
@@ -24,7 +24,7 @@ use Rattle.vmar_offset.specs.declared.Offset.the-variants as asked
 use Rattle.vmar_offset.specs.declared.OffsetResult.{OffsetResult}
 use Rattle.vmar_offset.specs.declared.OffsetResult.the-variants as offset
 use Rattle.vmar_offset.proofs.Found.{slot-live, free-mapping, determined-free}
-use Rattle.vmar_map.specs.Map.{MapDone, refused, filled, grants, rights, tested, mapping, settled, inRegion, afterTests, mapped}
+use Rattle.vmar_map.specs.Map.{MapDone, refused, filled, tested, mapping, settled, inRegion, afterTests, mapped}
 use Rattle.vmar_map.specs.declared.MapExtResult.{MapExtResult}
 use Rattle.vmar_map.specs.declared.MapExtResult.the-variants as result
 use Rattle.vmar_map.specs.declared.Tested.{Tested}

@@ -6,7 +6,7 @@ use mathlib.Core.Logic.{_⊎_, inl, inr, ⊎-elim}
 use native.Mathlib.Omega.{arith}
 use lib.Dec.{leb, ltb, eqb}
 use borrow.Author.Tests.{leb-true, ltb-true, ltb-false, not-true, eq-eqb}
-use Rattle.paging.proofs.Cases.{no-truth, below?}
+use Rattle.paging.proofs.Cases.{no-truth, below?, clash}
 use Rattle.scan.specs.Scan.{first, some}
 use Rattle.scan.proofs.Scans.{tell, first-passes, first-most, before-first, none-passes}
 use Rattle.vm.specs.Align.{multiple}
@@ -18,7 +18,6 @@ use Rattle.space.specs.declared.Region.{Region}
 use Rattle.space.specs.declared.Mapping.{Mapping}
 use Rattle.space.specs.declared.Space.{Space}
 use Rattle.space.proofs.Ranges.{inner-of}
-use Rattle.space.proofs.Tests.{clash}
 use Rattle.vmar_offset.specs.Offset.{childMeets, mappingMeets, meetsChild, meetsMapping, testMap, takesChild, takesMapping, childEnd, mappingEnd, findFreeArea, found, determineOffset}
 use Rattle.vmar_offset.specs.declared.Offset.{Offset}
 use Rattle.vmar_offset.specs.declared.Offset.the-variants as offset

@@ -7,8 +7,7 @@ use mathlib.Core.Logic.{⊎-elim}
 use native.Mathlib.Omega.{arith}
 use lib.ListN.{length, getD, set}
 use lib.Seq.{getD-set-same, getD-set-other}
-use Rattle.paging.proofs.Cases.{same?}
-use Rattle.space.proofs.Tests.{clash}
+use Rattle.paging.proofs.Cases.{same?, clash}
 
 -- slot i of n held none that lives, and now holds `new`
 pub record Fills {A : Type 0} (live : A → Bool) (blank : A) (list : List A) (n i : ℕ) (new : A) : Type 0 where
