@@ -1,20 +1,20 @@
 -- A fresh space passes its check.
-use Prim.Native.Nat.{ℕ, _+_, _-_, _*_, _^_, _≤_, _<_}
+use Prim.Native.Nat.{ℕ, _+_, _*_, _≤_, _<_}
 use mathlib.Core.Path.{_≡_, refl, sym, _∙_, ap, subst}
-use mathlib.Core.Bool.{Bool, true, false}
+use mathlib.Core.Bool.{true}
 use mathlib.Core.List.{List}
 use mathlib.Core.Logic.{inl, inr, ⊎-elim}
 use native.Mathlib.Omega.{arith}
-use lib.ListN.{length, getD, replicate, length-replicate, length-set, getD-replicate, List·getD-eq-default}
+use lib.ListN.{getD, replicate, length-replicate, length-set, getD-replicate, List·getD-eq-default}
 use Rattle.paging.proofs.Cases.{same?, below?, clash}
 use Rattle.common.specs.Flags.{knownRegion}
 use Rattle.space.specs.Space.{regionAt, mappingAt, isRegion, isMapping, regionPlace, blankRegion, blankMapping, noRegion}
-use Rattle.space.specs.Passes.{In, RootRange, Listed, Tree, Inside, Apart, Known, Ids, Blank, Passes}
+use Rattle.space.specs.Passes.{RootRange, Listed, Passes}
 use Rattle.space.specs.declared.Region.{Region}
 use Rattle.space.specs.declared.Mapping.{Mapping}
 use Rattle.space.specs.declared.Space.{Space}
 use Rattle.vmar_laws.specs.Arrays.{Arrays}
-use Rattle.vmar_laws.proofs.Slots.{Fills, here, there, each, pairs, blanks}
+use Rattle.vmar_laws.proofs.Slots.{Fills, here, there, each, blanks}
 use Rattle.vmar.specs.Calls.{newSpace}
 use Rattle.vmar.specs.Laws.{Zeroed, Fresh}
 

@@ -1,7 +1,7 @@
 -- What `allocate` does: how a call ends, and the child that an accepted one makes.
-use Prim.Native.Nat.{ℕ, _+_, _-_, _^_, _≤_, _<_}
+use Prim.Native.Nat.{ℕ, _+_, _-_, _^_, _<_}
 use mathlib.Core.Path.{_≡_, refl, sym, _∙_, ap, subst}
-use mathlib.Core.Bool.{Bool, true, false}
+use mathlib.Core.Bool.{true, false}
 use mathlib.Core.List.{List}
 use mathlib.Core.Logic.{⊎-elim}
 use native.Mathlib.Omega.{arith}
@@ -9,10 +9,9 @@ use lib.Dec.{ltb, eqb}
 use borrow.Author.Tests.{ltb-true, eqb-false, not-false}
 use Rattle.common.specs.Flags.{knownRegion}
 use Rattle.scan.proofs.Scans.{tell, before-first}
-use Rattle.vm.specs.Align.{multiple}
 use Rattle.refusal.specs.declared.Refusal.{Refusal}
 use Rattle.refusal.specs.declared.Refusal.the-variants.{InvalidArgs, NoMemory, BadState, NoSlot, BadHandle}
-use Rattle.space.specs.Space.{regionAt, isRegion, regionPlace, withRegion, blankRegion}
+use Rattle.space.specs.Space.{regionAt, isRegion, withRegion, blankRegion}
 use Rattle.space.specs.Passes.{Passes}
 use Rattle.space.specs.declared.Region.{Region}
 use Rattle.space.specs.declared.Space.{Space}
@@ -23,15 +22,15 @@ use Rattle.vmar_offset.specs.declared.Offset.the-variants as asked
 use Rattle.vmar_offset.specs.declared.OffsetResult.{OffsetResult}
 use Rattle.vmar_offset.specs.declared.OffsetResult.the-variants as offset
 use Rattle.vmar_offset.proofs.Found.{slot-live, free-region, determined-free}
-use Rattle.vmar_allocate.specs.Allocate.{refused, child, placed, settled, allocated}
+use Rattle.vmar_allocate.specs.Allocate.{refused, child, settled, allocated}
 use Rattle.vmar_allocate.specs.declared.AllocateResult.{AllocateResult}
 use Rattle.vmar_allocate.specs.declared.AllocateResult.the-variants as result
 use Rattle.vmar_allocate.specs.declared.Allocation.{Allocation}
 use Rattle.vmar_allocate.proofs.Allocates.{no-slot, no-id, made, never-issued, unknown, dead, alive}
 use Rattle.vmar_laws.specs.Arrays.{Arrays}
 use Rattle.vmar_laws.specs.Later.{Later}
-use Rattle.vmar_laws.specs.Search.{FreeIn, FirstFit, NoFit}
-use Rattle.vmar_laws.specs.Allocates.{NewChild, RegionsKept, Accepted, Allocates, AllocatesAll}
+use Rattle.vmar_laws.specs.Search.{FreeIn, NoFit}
+use Rattle.vmar_laws.specs.Allocates.{NewChild, Accepted, AllocatesAll}
 use Rattle.vmar_laws.proofs.Lists.{last-place, early-place}
 use Rattle.vmar_laws.proofs.Slots.{Fills, here, there}
 use Rattle.vmar_laws.proofs.Later.{later-none, later-region, found-region}
@@ -156,7 +155,7 @@ module _ (s : Space) (id : ℕ) (o : Offset) (len flags align : ℕ) where
     accepted-child : (n : ℕ) → s .nextid ≡ n → Accepted s t pages r n o len flags align
     accepted-child n e = record {
       passes = child-passes s pages p arrays i (spare .0) (spare .1) g born;
-      arrays = child-arrays s pages p arrays i (spare .0) (spare .1) g born;
+      arrays = child-arrays s i g arrays;
       id = sym e;
       child = new-child;
       kept = record {
@@ -172,7 +171,8 @@ module _ (s : Space) (id : ℕ) (o : Offset) (len flags align : ℕ) where
     }
 
   module _ (pages : List ℕ) (arrays : Arrays s) (p : Passes s pages) where
-    accepts-child : {out : Allocation} → Ends s id o len flags align out → (n : ℕ) → out .result ≡ result.Region n → Accepted s (out .space) pages (slotOf s id) n o len flags align
+    accepts-child : {out : Allocation} → Ends s id o len flags align out → (n : ℕ) → out .result ≡ result.Region n
+        → Accepted s (out .space) pages (slotOf s id) n o len flags align
     accepts-child (refusal w f) n e = region-refused (sym e)
     accepts-child (accepts off shown) n e = accepted-child pages arrays p off shown n (same-region e)
 

@@ -1,16 +1,16 @@
 -- A space that passes its check still passes it with one child more.
-use Prim.Native.Nat.{ℕ, _+_, _-_, _^_, _≤_, _<_}
+use Prim.Native.Nat.{ℕ, _+_, _-_, _^_, _<_}
 use mathlib.Core.Path.{_≡_, refl, sym, _∙_, ap, subst}
 use mathlib.Core.Bool.{Bool, true, false}
 use mathlib.Core.List.{List}
-use mathlib.Core.Logic.{_⊎_, inl, inr, ⊎-elim}
+use mathlib.Core.Logic.{⊎-elim}
 use native.Mathlib.Omega.{arith}
-use lib.ListN.{length, set, length-set}
+use lib.ListN.{length, length-set}
 use Rattle.paging.proofs.Cases.{same?, clash}
 use Rattle.common.specs.Flags.{knownRegion}
 use Rattle.space.specs.Range.{overlap, inside}
-use Rattle.space.specs.Space.{regionAt, mappingAt, isRegion, isMapping, regionPlace, withRegion, noRegion, blankRegion}
-use Rattle.space.specs.Passes.{In, RootRange, Tree, Inside, Apart, Known, Ids, Blank, Passes}
+use Rattle.space.specs.Space.{regionAt, mappingAt, isRegion, regionPlace, withRegion, noRegion, blankRegion}
+use Rattle.space.specs.Passes.{In, RootRange, Tree, Inside, Apart, Ids, Passes}
 use Rattle.space.specs.declared.Region.{Region}
 use Rattle.space.specs.declared.Space.{Space}
 use Rattle.space.proofs.Facts.{region-place, region-room}
@@ -33,6 +33,15 @@ parent-lives {s} p j l a n =
     let e = q .2 ∙ ap (λ (x : ℕ). regionAt s x .parent) (m .2) in
     (subst (λ (x : ℕ). x < 32) e (w .0), subst (λ (x : ℕ). isRegion s x ≡ true) e (w .1))
 
+-- the arrays keep their lengths
+pub child-arrays : (s : Space) (i : ℕ) (g : Region) → Arrays s → Arrays (withRegion s i g)
+child-arrays s i g arrays = record {
+  regions = length-set (s .regions) i g ∙ arrays .regions;
+  mappings = arrays .mappings;
+  reglist = length-set (s .reglist) (s .regcount) i ∙ arrays .reglist;
+  maplist = arrays .maplist;
+}
+
 -- what a child to be has: the next id, known flags, and a region with room for it
 pub record Born (s : Space) (g : Region) : Type 0 where
   pub live : g .live ≡ true
@@ -41,7 +50,8 @@ pub record Born (s : Space) (g : Region) : Type 0 where
   pub known : knownRegion (g .flags) ≡ true
   pub fits : FreeIn s (g .parent) (g .addr) (g .size)
 
-module _ (s : Space) (flags : List ℕ) (p : Passes s flags) (arrays : Arrays s) (i : ℕ) (slot : i < 32) (free : isRegion s i ≡ false) (g : Region) (b : Born s g) where
+module _ (s : Space) (flags : List ℕ) (p : Passes s flags) (arrays : Arrays s) (i : ℕ) (slot : i < 32) (free : isRegion s i ≡ false)
+    (g : Region) (b : Born s g) where
   abbrev lives : Region → Bool
   lives h = h .live
 
@@ -84,12 +94,14 @@ module _ (s : Space) (flags : List ℕ) (p : Passes s flags) (arrays : Arrays s)
   }
 
   -- a range inside a live region of s is inside that region of t
-  still-inside : (r a n : ℕ) → isRegion s r ≡ true → inside a n (regionAt s r .addr) (regionAt s r .size) ≡ true → inside a n (regionAt t r .addr) (regionAt t r .size) ≡ true
+  still-inside : (r a n : ℕ) → isRegion s r ≡ true → inside a n (regionAt s r .addr) (regionAt s r .size) ≡ true
+      → inside a n (regionAt t r .addr) (regionAt t r .size) ≡ true
   still-inside r a n h e = subst (λ (x : Region). inside a n (x .addr) (x .size) ≡ true) (sym (kept fills r h)) e
 
   inner : Inside t
   inner = record {
-    child = each fills (λ (j : ℕ) (h : Region). (h .parent ≡ noRegion → ⊥) → inside (h .addr) (h .size) (regionAt t (h .parent) .addr) (regionAt t (h .parent) .size) ≡ true)
+    child = each fills
+        (λ (j : ℕ) (h : Region). (h .parent ≡ noRegion → ⊥) → inside (h .addr) (h .size) (regionAt t (h .parent) .addr) (regionAt t (h .parent) .size) ≡ true)
         (λ n. still-inside (g .parent) _ _ (b .fits .live) (b .fits .inner))
         (λ j l a n. still-inside (regionAt s j .parent) _ _ (parent-lives p j l a n .1) (p .inner .child j l a n));
     region = λ j l a. let h = p .inner .region j l a in (h .0, subst (λ (x : Region). x .live ≡ true) (sym (kept fills _ (h .1))) (h .1));
@@ -138,12 +150,4 @@ module _ (s : Space) (flags : List ℕ) (p : Passes s flags) (arrays : Arrays s)
       region = blanks fills (p .blank .region);
       mapping = p .blank .mapping;
     };
-  }
-
-  pub child-arrays : Arrays (withRegion s i g)
-  child-arrays = record {
-    regions = length-set (s .regions) i g ∙ arrays .regions;
-    mappings = arrays .mappings;
-    reglist = length-set (s .reglist) (s .regcount) i ∙ arrays .reglist;
-    maplist = arrays .maplist;
   }

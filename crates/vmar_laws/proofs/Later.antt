@@ -1,10 +1,9 @@
 -- An issued id stays this region's or is without one, through any number of calls; and the two ways a call adds to a space.
-use Prim.Native.Nat.{ℕ, _+_, _≤_, _<_}
+use Prim.Native.Nat.{ℕ, _≤_, _<_}
 use mathlib.Core.Path.{_≡_, refl, sym, _∙_, subst}
-use mathlib.Core.Bool.{Bool, true, false}
+use mathlib.Core.Bool.{true, false}
 use mathlib.Core.Logic.{_⊎_, inl, inr, ⊎-elim}
 use native.Mathlib.Omega.{arith}
-use lib.Dec.{eqb}
 use borrow.Author.Tests.{eqb-true, eq-eqb, ne-eqb}
 use Rattle.paging.proofs.Cases.{same?, no-truth}
 use Rattle.scan.proofs.Scans.{tell}
@@ -76,7 +75,8 @@ module _ (s : Space) (i : ℕ) (g : Region) (fills : Fills (λ (h : Region). h .
       ⊎-elim
       (λ (e : j ≡ i).
       subst (λ (x : ℕ). idAt (withRegion s i g) id x ≡ idAt s id x) (sym e)
-      (no-id (regionAt (withRegion s i g) i) id (λ q. subst (λ (h : Region). h .id ≡ id → ⊥) (sym (here fills i refl)) (λ z. omega arith) q) ∙ sym (not-live (regionAt s i) id (fills .free))))
+      (no-id (regionAt (withRegion s i g) i) id (λ q. subst (λ (h : Region). h .id ≡ id → ⊥) (sym (here fills i refl)) (λ z. omega arith) q)
+      ∙ sym (not-live (regionAt s i) id (fills .free))))
       (λ (n : j ≡ i → ⊥). subst (λ (h : Region). hasId h id ≡ idAt s id j) (sym (there fills j n)) refl)
       (same? j i)
 
@@ -87,7 +87,9 @@ module _ (s : Space) (i : ℕ) (g : Region) (fills : Fills (λ (h : Region). h .
 
   pub found-region : ((j : ℕ) → j < 32 → isRegion s j ≡ true → regionAt s j .id < s .nextid) → slotOf (withRegion s i g) (s .nextid) ≡ i
   found-region issued =
-      the-first (idAt (withRegion s i g) (s .nextid)) 32 i (fills .slot) (subst (λ (h : Region). hasId h (s .nextid) ≡ true) (sym (here fills i refl)) (has-id g (s .nextid) (fills .born) id-is)) one
+      the-first (idAt (withRegion s i g) (s .nextid)) 32 i (fills .slot)
+      (subst (λ (h : Region). hasId h (s .nextid) ≡ true) (sym (here fills i refl)) (has-id g (s .nextid) (fills .born) id-is))
+      one
     where
       one : (j : ℕ) → j < 32 → idAt (withRegion s i g) (s .nextid) j ≡ true → j ≡ i
       one j l t =

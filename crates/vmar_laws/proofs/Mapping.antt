@@ -1,5 +1,5 @@
 -- A space that passes its check still passes it with one mapping more.
-use Prim.Native.Nat.{ℕ, _+_, _/_, _≤_, _<_}
+use Prim.Native.Nat.{ℕ, _/_, _≤_, _<_}
 use mathlib.Core.Path.{_≡_, refl, sym, _∙_, ap, subst}
 use mathlib.Core.Bool.{Bool, true, false}
 use mathlib.Core.List.{List}
@@ -21,6 +21,15 @@ use Rattle.vmar_laws.specs.Maps.{PagesGiven}
 use Rattle.vmar_laws.proofs.Lists.{listed-more}
 use Rattle.vmar_laws.proofs.Slots.{Fills, here, there, each, pairs, blanks}
 use Rattle.vmar_laws.proofs.Ranges.{flip}
+
+-- the arrays keep their lengths
+pub mapping-arrays : (s : Space) (i : ℕ) (m : Mapping) → Arrays s → Arrays (withMapping s i m)
+mapping-arrays s i m arrays = record {
+  regions = arrays .regions;
+  mappings = length-set (s .mappings) i m ∙ arrays .mappings;
+  reglist = arrays .reglist;
+  maplist = length-set (s .maplist) (s .mapcount) i ∙ arrays .maplist;
+}
 
 -- what a mapping to be has: whole pages, known permissions, and a region with room for it
 pub record Born (s : Space) (m : Mapping) : Type 0 where
@@ -45,8 +54,8 @@ module _ {s : Space} {f : List ℕ} (p : Passes s f) where
   pub zeros : (j : ℕ) → j < 64 → isMapping s j ≡ false → (k : ℕ) → k < 512 → pageAt f j k ≡ 0
   zeros j l a k h = let z = no-pages j l a in p .pages j l .past k (omega arith) h
 
-module _ (s : Space) (f : List ℕ) (p : Passes s f) (arrays : Arrays s) (i : ℕ) (slot : i < 64) (free : isMapping s i ≡ false) (m : Mapping) (b : Born s m) (g : List ℕ) (flags : ℕ)
-    (lent : length g ≡ 32768) (known : knownPage flags ≡ true) (given : PagesGiven f g i (m .size / 4096) flags) where
+module _ (s : Space) (f : List ℕ) (p : Passes s f) (arrays : Arrays s) (i : ℕ) (slot : i < 64) (free : isMapping s i ≡ false)
+    (m : Mapping) (b : Born s m) (g : List ℕ) (flags : ℕ) (lent : length g ≡ 32768) (known : knownPage flags ≡ true) (given : PagesGiven f g i (m .size / 4096) flags) where
   abbrev lives : Mapping → Bool
   lives n = n .live
 
@@ -60,7 +69,8 @@ module _ (s : Space) (f : List ℕ) (p : Passes s f) (arrays : Arrays s) (i : �
   inner = record {
     child = p .inner .child;
     region = each fills (λ (j : ℕ) (n : Mapping). (n .region < 32) × (isRegion s (n .region) ≡ true)) (b .fits .slot, b .fits .live) (p .inner .region);
-    mapping = each fills (λ (j : ℕ) (n : Mapping). inside (n .addr) (n .size) (regionAt s (n .region) .addr) (regionAt s (n .region) .size) ≡ true) (b .fits .inner) (p .inner .mapping);
+    mapping = each fills (λ (j : ℕ) (n : Mapping). inside (n .addr) (n .size) (regionAt s (n .region) .addr) (regionAt s (n .region) .size) ≡ true) (b .fits .inner)
+        (p .inner .mapping);
   }
 
   apart-all : Apart t
@@ -119,12 +129,4 @@ module _ (s : Space) (f : List ℕ) (p : Passes s f) (arrays : Arrays s) (i : �
     };
     ids = record { most = p .ids .most; issued = p .ids .issued; distinct = p .ids .distinct };
     blank = record { region = p .blank .region; mapping = blanks fills (p .blank .mapping) };
-  }
-
-  pub mapping-arrays : Arrays (withMapping s i m)
-  mapping-arrays = record {
-    regions = arrays .regions;
-    mappings = length-set (s .mappings) i m ∙ arrays .mappings;
-    reglist = arrays .reglist;
-    maplist = length-set (s .maplist) (s .mapcount) i ∙ arrays .maplist;
   }

@@ -3,7 +3,7 @@ use Prim.Native.Nat.{ℕ, _+_, _*_, _/_, _%_, _^_, _≤_, _<_}
 use mathlib.Core.Path.{_≡_, refl, sym, _∙_, ap, subst}
 use mathlib.Core.Bool.{Bool, true, false}
 use mathlib.Core.List.{List}
-use mathlib.Core.Logic.{_⊎_, inl, inr, ⊎-elim}
+use mathlib.Core.Logic.{⊎-elim}
 use native.Mathlib.Omega.{arith}
 use lib.Dec.{leb, ltb, eqb}
 use borrow.Author.Tests.{ltb-false, eqb-true, eqb-false, not-false}
@@ -13,7 +13,7 @@ use Rattle.vm.specs.Align.{multiple}
 use Rattle.refusal.specs.declared.Refusal.{Refusal}
 use Rattle.refusal.specs.declared.Refusal.the-variants.{InvalidArgs, AccessDenied, NoMemory, BadState, NoSlot, BadHandle}
 use Rattle.space.specs.Space.{regionAt, mappingAt, isRegion, isMapping, withMapping, blankMapping}
-use Rattle.space.specs.Passes.{Passes, Paged}
+use Rattle.space.specs.Passes.{Passes}
 use Rattle.space.specs.declared.Mapping.{Mapping}
 use Rattle.space.specs.declared.Space.{Space}
 use Rattle.space.proofs.Ranges.{inner, sum-fits}
@@ -32,8 +32,8 @@ use Rattle.vmar_map.specs.declared.Tested.the-variants as test
 use Rattle.vmar_map.proofs.Maps.{odd-offset, odd-length, over, denied, faulting, past-vmo, in-vmo, unaligned, too-many, no-slot, made, dead, alive, never-issued, unknown-permissions, unknown-flags, known-all}
 use Rattle.vmar_laws.specs.Arrays.{Arrays}
 use Rattle.vmar_laws.specs.Later.{Later}
-use Rattle.vmar_laws.specs.Search.{FreeIn, FirstFit, NoFit}
-use Rattle.vmar_laws.specs.Maps.{NewMapping, MappingsKept, PagesGiven, Accepted, Maps, MapsAll}
+use Rattle.vmar_laws.specs.Search.{FreeIn, NoFit}
+use Rattle.vmar_laws.specs.Maps.{NewMapping, PagesGiven, Accepted, MapsAll}
 use Rattle.vmar_laws.proofs.Lists.{last-place, early-place}
 use Rattle.vmar_laws.proofs.Slots.{Fills, here, there}
 use Rattle.vmar_laws.proofs.Later.{later-none, later-mapping}
@@ -247,7 +247,7 @@ module _ (s : Space) (f : List ℕ) (id : ℕ) (o : Offset) (vmo at len p fl : �
     accepted-mapping : (addr : ℕ) → regionAt s r .addr + off ≡ addr → Accepted s t f g r addr o vmo at len p fl
     accepted-mapping addr e = record {
       passes = mapping-passes s f passes arrays i (spare .0) (spare .1) m born g fl (filled-length f (i * 512) (len / 4096) fl ∙ passes .lent) (shown .flags) given;
-      arrays = mapping-arrays s f passes arrays i (spare .0) (spare .1) m born g fl (filled-length f (i * 512) (len / 4096) fl ∙ passes .lent) (shown .flags) given;
+      arrays = mapping-arrays s i m arrays;
       mapping = new-mapping;
       kept = record {
         mappings = there fills;

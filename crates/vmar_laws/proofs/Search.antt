@@ -1,19 +1,19 @@
 -- What an offset that was found tells: where it comes from, and what is free there.
 use Prim.Native.Nat.{ℕ, _+_, _≤_, _<_}
 use mathlib.Core.Path.{_≡_, refl, sym, _∙_, ap, subst}
-use mathlib.Core.Bool.{Bool, true, false, not}
+use mathlib.Core.Bool.{Bool, true, false}
 use mathlib.Core.Logic.{_⊎_, inl, inr, ⊎-elim}
 use native.Mathlib.Omega.{arith}
-use lib.Dec.{leb, ltb, eqb}
+use lib.Dec.{ltb}
 use borrow.Author.Tests.{leb-true, ltb-true, ltb-false, not-true, eq-eqb}
 use Rattle.paging.proofs.Cases.{no-truth, below?, clash}
 use Rattle.scan.specs.Scan.{first, some}
-use Rattle.scan.proofs.Scans.{tell, first-passes, first-most, before-first, none-passes}
+use Rattle.scan.proofs.Scans.{tell, first-passes, before-first, none-passes}
 use Rattle.vm.specs.Align.{multiple}
 use Rattle.refusal.specs.declared.Refusal.{Refusal}
 use Rattle.refusal.specs.declared.Refusal.the-variants.{InvalidArgs, NoMemory}
 use Rattle.space.specs.Range.{overlap}
-use Rattle.space.specs.Space.{regionAt, mappingAt, isRegion, isMapping}
+use Rattle.space.specs.Space.{regionAt, mappingAt, isRegion}
 use Rattle.space.specs.declared.Region.{Region}
 use Rattle.space.specs.declared.Mapping.{Mapping}
 use Rattle.space.specs.declared.Space.{Space}
@@ -25,7 +25,7 @@ use Rattle.vmar_offset.specs.declared.OffsetResult.{OffsetResult}
 use Rattle.vmar_offset.specs.declared.OffsetResult.the-variants as result
 use Rattle.vmar_offset.proofs.Offsets.{on-child, off-children, at-zero, at-child, at-mapping, nowhere, odd-length, asked-odd, asked-full, asked-free, too-large, searched}
 use Rattle.vmar_offset.proofs.Found.{free-fits}
-use Rattle.vmar_laws.specs.Search.{FreeIn, NoChild, NoMapping, FirstFit, NoFit, OneFit}
+use Rattle.vmar_laws.specs.Search.{FreeIn, NoChild, FirstFit, NoFit, OneFit}
 use Rattle.vmar_laws.specs.Search as fit
 
 -- a child of r that does not meet a range does not overlap it, nor does a mapping

@@ -1,6 +1,6 @@
--- Where a child or a mapping may go, and which offset the unhinted search finds. Document 01, 'Regions': "Lists keep the Rust's order; the search tries offset 0, then child ends, then mapping ends. A
--- candidate that is no multiple of the alignment is passed over"; 'Refusal numbers': 3 where "the unhinted search finds nothing". What a candidate is and when it
--- is taken is `candidate` and `taken` of vmar_offset/specs/Offset; offset 0 is a multiple of everything.
+-- Where a child or a mapping may go, and which offset the unhinted search finds. Document 01, 'Regions': "Lists keep the Rust's order; the search tries offset 0,
+-- then child ends, then mapping ends. A candidate that is no multiple of the alignment is passed over"; 'Refusal numbers': 3 where "the unhinted search finds
+-- nothing". What a candidate is and when it is taken is `candidate` and `taken` of vmar_offset/specs/Offset; offset 0 is a multiple of everything.
 use Prim.Native.Nat.{ℕ, _<_}
 use mathlib.Core.Path.{_≡_}
 use mathlib.Core.Bool.{true, false}
