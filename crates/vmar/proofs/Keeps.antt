@@ -82,11 +82,11 @@ module _ (s : Space) (f p : List ℕ) (base used id : ℕ) (o : Offset) (vmo vmo
   refused-mapped e = let z : _≡_ {A = ℕ} 0 1 = cc in absurd (omega arith)
 
   map-means : {out : MapDone} → MapFits s f p base used id o vmo vmo-len at len permissions flags faults out → (addr : ℕ) → out .result ≡ map.Mapped addr
-      → mapping.Accepted s (out .space) f (out .flags) (slotOf s id) addr o vmo at len permissions flags
+      → mapping.Accepted s (out .space) f (out .flags) (slotOf s id) addr o vmo vmo-len at len permissions flags faults
   map-means (bad-space n e) addr q = refused-mapped (sym (ap (λ (x : MapDone). x .result) e) ∙ q)
   map-means (bad-table u n e) addr q = refused-mapped (sym (ap (λ (x : MapDone). x .result) e) ∙ q)
   map-means (done u w e) addr q =
-      subst (λ (x : MapDone). mapping.Accepted s (x .space) f (x .flags) (slotOf s id) addr o vmo at len permissions flags) (sym e)
+      subst (λ (x : MapDone). mapping.Accepted s (x .space) f (x .flags) (slotOf s id) addr o vmo vmo-len at len permissions flags faults) (sym e)
       (maps .holds s f arrays u id o vmo vmo-len at len permissions flags faults .accepted addr (sym (ap (λ (x : MapDone). x .result) e) ∙ q))
 
 -- a lookup changes nothing

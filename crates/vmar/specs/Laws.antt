@@ -69,4 +69,4 @@ pub record Means : Type 0 where
       → AllocateFits s f id o len flags align out → (n : ℕ) → out .result ≡ allocate.Region n → allocates.Accepted s (out .space) f (slotOf s id) n o len flags align
   pub map : (s : Space) (f p : List ℕ) (base used id : ℕ) (o : Offset) (vmo vmo-len at len permissions flags : ℕ) (faults : Bool) (out : MapDone) → Arrays s
       → MapFits s f p base used id o vmo vmo-len at len permissions flags faults out → (addr : ℕ) → out .result ≡ map.Mapped addr
-      → maps.Accepted s (out .space) f (out .flags) (slotOf s id) addr o vmo at len permissions flags
+      → maps.Accepted s (out .space) f (out .flags) (slotOf s id) addr o vmo vmo-len at len permissions flags faults

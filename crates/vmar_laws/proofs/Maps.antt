@@ -3,11 +3,11 @@ use Prim.Native.Nat.{ℕ, _+_, _*_, _/_, _%_, _^_, _≤_, _<_}
 use mathlib.Core.Path.{_≡_, refl, sym, _∙_, ap, subst}
 use mathlib.Core.Bool.{Bool, true, false}
 use mathlib.Core.List.{List}
-use mathlib.Core.Logic.{⊎-elim}
+use mathlib.Core.Logic.{_⊎_, inl, inr, ⊎-elim}
 use native.Mathlib.Omega.{arith}
 use lib.Dec.{leb, ltb, eqb}
-use borrow.Author.Tests.{ltb-false, eqb-true, eqb-false, not-false}
-use Rattle.common.specs.Flags.{knownPage, grants, rights}
+use borrow.Author.Tests.{leb-true, ltb-false, eqb-true, eqb-false, not-false}
+use Rattle.common.specs.Flags.{knownPage}
 use Rattle.scan.proofs.Scans.{tell, before-first}
 use Rattle.vm.specs.Align.{multiple}
 use Rattle.refusal.specs.declared.Refusal.{Refusal}
@@ -18,6 +18,7 @@ use Rattle.space.specs.declared.Mapping.{Mapping}
 use Rattle.space.specs.declared.Space.{Space}
 use Rattle.space.proofs.Ranges.{inner, sum-fits}
 use Rattle.space.proofs.Facts.{mapping-room, region-end}
+use Rattle.space.proofs.Tests.{clash}
 use Rattle.vmar_offset.specs.Offset.{slotOf, isFreeMapping, freeMapping, determineOffset}
 use Rattle.vmar_offset.specs.declared.Offset.{Offset}
 use Rattle.vmar_offset.specs.declared.Offset.the-variants as asked
@@ -41,57 +42,66 @@ use Rattle.vmar_laws.proofs.Search.{free-in, hinted, unhinted, no-memor
 use Rattle.vmar_laws.proofs.Pages.{filled-length, pages-given}
 use Rattle.vmar_laws.proofs.Mapping.{Born, zeros, mapping-passes, mapping-arrays}
 
--- what the first tests have shown: whole pages of the VMO that do not overflow
-record Fine (at len : ℕ) : Type 0 where
+-- what the first tests have shown: whole pages of the VMO that do not overflow, rights that are granted, and a range in the VMO unless faults are allowed
+record Fine (v at len p fl : ℕ) (faults : Bool) : Type 0 where
   offset : at % 4096 ≡ 0
   size : len % 4096 ≡ 0
   end : at + len < 2 ^ 64
+  granted : grants p (rights fl) ≡ true
+  within : faults ≡ false → at + len ≤ v
 
 -- how they end: fine, or refused, not with 3
-data Tests (at len : ℕ) : Tested → Type 0 where
-  fine : Fine at len → Tests at len test.Fine
-  fails : (why : Refusal) → (why ≡ NoMemory → _≡_ {A = ℕ} 0 1) → Tests at len (test.Refused why)
+data Tests (v at len p fl : ℕ) (faults : Bool) : Tested → Type 0 where
+  fine : Fine v at len p fl faults → Tests v at len p fl faults test.Fine
+  fails : (why : Refusal) → (why ≡ NoMemory → _≡_ {A = ℕ} 0 1) → Tests v at len p fl faults (test.Refused why)
 
-tests : (v at len p f : ℕ) (faults : Bool) → Tests at len (tested v at len p f faults)
-tests v at len p f faults =
-    ⊎-elim
-    (λ (a : multiple at 4096 ≡ true). ⊎-elim
-    (λ (b : multiple len 4096 ≡ true). ⊎-elim
-    (λ (c : leb (at + len) 0xffff_ffff_ffff_ffff ≡ true). ⊎-elim
-    (λ (d : grants p (rights f) ≡ true).
-    let w = fine (record { offset = eqb-true _ _ a; size = eqb-true _ _ b; end = sum-fits at len c }) in
-    ⊎-elim
-    (λ (e : faults ≡ true). subst (Tests at len) (faulting v at len p f faults a b c d e) w)
-    (λ (e : faults ≡ false). ⊎-elim
-    (λ (g : leb (at + len) v ≡ true). subst (Tests at len) (in-vmo v at len p f faults a b c d e g) w)
-    (λ (g : leb (at + len) v ≡ false). subst (Tests at len) (past-vmo v at len p f faults a b c d e g) (fails InvalidArgs (λ q. cc)))
-    (tell (leb (at + len) v)))
-    (tell faults))
-    (λ (d : grants p (rights f) ≡ false). subst (Tests at len) (denied v at len p f faults a b c d) (fails AccessDenied (λ q. cc)))
-    (tell (grants p (rights f))))
-    (λ (c : leb (at + len) 0xffff_ffff_ffff_ffff ≡ false). subst (Tests at len) (over v at len p f faults a b c) (fails InvalidArgs (λ q. cc)))
-    (tell (leb (at + len) 0xffff_ffff_ffff_ffff)))
-    (λ (b : multiple len 4096 ≡ false). subst (Tests at len) (odd-length v at len p f faults a b) (fails InvalidArgs (λ q. cc)))
-    (tell (multiple len 4096)))
-    (λ (a : multiple at 4096 ≡ false). subst (Tests at len) (odd-offset v at len p f faults a) (fails InvalidArgs (λ q. cc)))
-    (tell (multiple at 4096))
+module _ (v at len p f : ℕ) (faults : Bool) where
+  -- a test that fails
+  failing : (why : Refusal) → (why ≡ NoMemory → _≡_ {A = ℕ} 0 1) → (d : Tested) → test.Refused why ≡ d → Tests v at len p f faults d
+  failing why n d e = subst (Tests v at len p f faults) e (fails why n)
+
+  tests : Tests v at len p f faults (tested v at len p f faults)
+  tests =
+      ⊎-elim
+      (λ (a : multiple at 4096 ≡ true). ⊎-elim
+      (λ (b : multiple len 4096 ≡ true). ⊎-elim
+      (λ (c : leb (at + len) 0xffff_ffff_ffff_ffff ≡ true). ⊎-elim
+      (λ (d : grants p (rights f) ≡ true). last a b c d (tell faults) (tell (leb (at + len) v)))
+      (λ (d : grants p (rights f) ≡ false). failing AccessDenied (λ q. cc) _ (denied v at len p f faults a b c d))
+      (tell (grants p (rights f))))
+      (λ (c : leb (at + len) 0xffff_ffff_ffff_ffff ≡ false). failing InvalidArgs (λ q. cc) _ (over v at len p f faults a b c))
+      (tell (leb (at + len) 0xffff_ffff_ffff_ffff)))
+      (λ (b : multiple len 4096 ≡ false). failing InvalidArgs (λ q. cc) _ (odd-length v at len p f faults a b))
+      (tell (multiple len 4096)))
+      (λ (a : multiple at 4096 ≡ false). failing InvalidArgs (λ q. cc) _ (odd-offset v at len p f faults a))
+      (tell (multiple at 4096))
+    where
+      passed : multiple at 4096 ≡ true → multiple len 4096 ≡ true → leb (at + len) 0xffff_ffff_ffff_ffff ≡ true → grants p (rights f) ≡ true
+          → (faults ≡ false → at + len ≤ v) → Tests v at len p f faults test.Fine
+      passed a b c d e = fine (record { offset = eqb-true _ _ a; size = eqb-true _ _ b; end = sum-fits at len c; granted = d; within = e })
+
+      last : multiple at 4096 ≡ true → multiple len 4096 ≡ true → leb (at + len) 0xffff_ffff_ffff_ffff ≡ true → grants p (rights f) ≡ true
+          → (faults ≡ true) ⊎ (faults ≡ false) → (leb (at + len) v ≡ true) ⊎ (leb (at + len) v ≡ false) → Tests v at len p f faults (tested v at len p f faults)
+      last a b c d (inl e) g = subst (Tests v at len p f faults) (faulting v at len p f faults a b c d e) (passed a b c d (λ q. clash faults e q))
+      last a b c d (inr e) (inl g) = subst (Tests v at len p f faults) (in-vmo v at len p f faults a b c d e g) (passed a b c d (λ q. leb-true _ _ g))
+      last a b c d (inr e) (inr g) = failing InvalidArgs (λ q. cc) _ (past-vmo v at len p f faults a b c d e g)
 
 -- what an accepted call has shown
-record Shown (s : Space) (id : ℕ) (o : Offset) (at len p fl off : ℕ) : Type 0 where
+record Shown (s : Space) (id : ℕ) (o : Offset) (v at len p fl : ℕ) (faults : Bool) (off : ℕ) : Type 0 where
   permissions : knownPage p ≡ true
   flags : knownPage fl ≡ true
-  fine : Fine at len
+  fine : Fine v at len p fl faults
   live : slotOf s id ≡ 32 → ⊥
   found : determineOffset s (slotOf s id) o len 4096 ≡ offset.Ok off
   aligned : (regionAt s (slotOf s id) .addr + off) % 4096 ≡ 0
   few : len ≤ 0x200000
   free : freeMapping s ≡ 64 → ⊥
 
-module _ (s : Space) (f : List ℕ) (id : ℕ) (o : Offset) (vmo at len p fl : ℕ) where
+module _ (s : Space) (f : List ℕ) (id : ℕ) (o : Offset) (vmo v at len p fl : ℕ) (faults : Bool) where
   -- how a call ends: refused, with 3 only by the search, or with the mapping
   data Ends : MapDone → Type 0 where
     refusal : (why : Refusal) → (why ≡ NoMemory → determineOffset s (slotOf s id) o len 4096 ≡ offset.Refused NoMemory) → Ends (refused s f why)
-    accepts : (off : ℕ) → Shown s id o at len p fl off
+    accepts : (off : ℕ) → Shown s id o v at len p fl faults off
         → Ends (record {
           result = result.Mapped (regionAt s (slotOf s id) .addr + off);
           space = withMapping s (freeMapping s) (mapping s (slotOf s id) off vmo at len p);
@@ -102,7 +112,7 @@ module _ (s : Space) (f : List ℕ) (id : ℕ) (o : Offset) (vmo at len p fl : �
   other : (why : Refusal) → (why ≡ NoMemory → _≡_ {A = ℕ} 0 1) → (out : MapDone) → refused s f why ≡ out → Ends out
   other why n out e = subst Ends e (refusal why (λ q. let z = n q in absurd (omega arith)))
 
-  settles : knownPage p ≡ true → knownPage fl ≡ true → Fine at len → (slotOf s id ≡ 32 → ⊥) → (d : OffsetResult) → determineOffset s (slotOf s id) o len 4096 ≡ d
+  settles : knownPage p ≡ true → knownPage fl ≡ true → Fine v at len p fl faults → (slotOf s id ≡ 32 → ⊥) → (d : OffsetResult) → determineOffset s (slotOf s id) o len 4096 ≡ d
       → Ends (settled s f (slotOf s id) vmo at len p fl d)
   settles k l w n (offset.Ok off) e =
       let r = slotOf s id in
@@ -129,19 +139,19 @@ module _ (s : Space) (f : List ℕ) (id : ℕ) (o : Offset) (vmo at len p fl : �
       (tell (multiple (regionAt s r .addr + off) 4096))
   settles k l w n (offset.Refused why) e = refusal why (λ q. e ∙ ap (λ (x : Refusal). offset.Refused x) q)
 
-  in-region : knownPage p ≡ true → knownPage fl ≡ true → Fine at len → Ends (inRegion s f id o vmo at len p fl)
+  in-region : knownPage p ≡ true → knownPage fl ≡ true → Fine v at len p fl faults → Ends (inRegion s f id o vmo at len p fl)
   in-region k l w =
       ⊎-elim
       (λ (d : eqb (slotOf s id) 32 ≡ true). other BadState (λ q. cc) _ (dead s f id o vmo at len p fl d))
       (λ (d : eqb (slotOf s id) 32 ≡ false). subst Ends (alive s f id o vmo at len p fl d) (settles k l w (eqb-false _ _ d) _ refl))
       (tell (eqb (slotOf s id) 32))
 
-  after-tests : {d : Tested} → knownPage p ≡ true → knownPage fl ≡ true → Tests at len d → Ends (afterTests s f id o vmo at len p fl d)
+  after-tests : {d : Tested} → knownPage p ≡ true → knownPage fl ≡ true → Tests v at len p fl faults d → Ends (afterTests s f id o vmo at len p fl d)
   after-tests k l (fine w) = in-region k l w
   after-tests k l (fails why n) = other why n _ refl
 
-  ends : (v : ℕ) (faults : Bool) → Ends (mapped s f id o vmo v at len p fl faults)
-  ends v faults =
+  ends : Ends (mapped s f id o vmo v at len p fl faults)
+  ends =
       ⊎-elim
       (λ (h : ltb id (s .nextid) ≡ true). ⊎-elim
       (λ (k : knownPage p ≡ true). ⊎-elim
@@ -175,7 +185,7 @@ module _ (s : Space) (f : List ℕ) (id : ℕ) (o : Offset) (vmo at len p fl : �
   later-all (accepts off k) = later-mapping s (freeMapping s) _
 
   -- the mapping that is made
-  module _ (arrays : Arrays s) (passes : Passes s f) (off : ℕ) (shown : Shown s id o at len p fl off) where
+  module _ (arrays : Arrays s) (passes : Passes s f) (off : ℕ) (shown : Shown s id o v at len p fl faults off) where
     abbrev r : ℕ
     r = slotOf s id
 
@@ -244,8 +254,10 @@ module _ (s : Space) (f : List ℕ) (id : ℕ) (o : Offset) (vmo at len p fl : �
       last = last-place (s .maplist) (s .mapcount) i (let e = arrays .maplist in let z = mapping-room passes i (spare .0) (spare .1) in omega arith) (s .mapcount) refl;
     }
 
-    accepted-mapping : (addr : ℕ) → regionAt s r .addr + off ≡ addr → Accepted s t f g r addr o vmo at len p fl
+    accepted-mapping : (addr : ℕ) → regionAt s r .addr + off ≡ addr → Accepted s t f g r addr o vmo v at len p fl faults
     accepted-mapping addr e = record {
+      granted = shown .fine .granted;
+      within = shown .fine .within;
       passes = mapping-passes s f passes arrays i (spare .0) (spare .1) m born g fl (filled-length f (i * 512) (len / 4096) fl ∙ passes .lent) (shown .flags) given;
       arrays = mapping-arrays s i m arrays;
       mapping = new-mapping;
@@ -265,16 +277,16 @@ module _ (s : Space) (f : List ℕ) (id : ℕ) (o : Offset) (vmo at len p fl : �
     }
 
   accepts-mapping : Arrays s → Passes s f → {out : MapDone} → Ends out → (addr : ℕ) → out .result ≡ result.Mapped addr
-      → Accepted s (out .space) f (out .flags) (slotOf s id) addr o vmo at len p fl
+      → Accepted s (out .space) f (out .flags) (slotOf s id) addr o vmo v at len p fl faults
   accepts-mapping arrays passes (refusal w n) addr e = mapped-refused (sym e)
   accepts-mapping arrays passes (accepts off shown) addr e = accepted-mapping arrays passes off shown addr (same-address e)
 
 pub maps : MapsAll
 maps = record {
-  holds = λ s f arrays passes id o vmo vmo-len at len permissions flags faults. let out = ends s f id o vmo at len permissions flags vmo-len faults in record {
-    refused = nothing-changes s f id o vmo at len permissions flags out;
-    nowhere = nowhere-free s f id o vmo at len permissions flags out;
-    accepted = accepts-mapping s f id o vmo at len permissions flags arrays passes out;
-    later = later-all s f id o vmo at len permissions flags out;
+  holds = λ s f arrays passes id o vmo vmo-len at len permissions flags faults. let out = ends s f id o vmo vmo-len at len permissions flags faults in record {
+    refused = nothing-changes s f id o vmo vmo-len at len permissions flags faults out;
+    nowhere = nowhere-free s f id o vmo vmo-len at len permissions flags faults out;
+    accepted = accepts-mapping s f id o vmo vmo-len at len permissions flags faults arrays passes out;
+    later = later-all s f id o vmo vmo-len at len permissions flags faults out;
   };
 }

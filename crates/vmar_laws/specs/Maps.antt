@@ -13,7 +13,7 @@ use Rattle.space.specs.declared.Space.{Space}
 use Rattle.vmar_offset.specs.Offset.{slotOf, freeMapping}
 use Rattle.vmar_offset.specs.declared.Offset.{Offset}
 use Rattle.vmar_offset.specs.declared.Offset.the-variants as offset
-use Rattle.vmar_map.specs.Map.{mapped}
+use Rattle.vmar_map.specs.Map.{grants, rights, mapped}
 use Rattle.vmar_map.specs.declared.MapExtResult.the-variants as result
 use Rattle.vmar_laws.specs.Arrays.{Arrays}
 use Rattle.vmar_laws.specs.Later.{Later}
@@ -54,12 +54,15 @@ pub record PagesGiven (f g : List ℕ) (i pages flags : ℕ) : Type 0 where
   pub kept : (k j : ℕ) → (k ≡ i → ⊥) → j < 512 → pageAt g k j ≡ pageAt f k j
 
 -- s and f have become t and g: addr is where a new mapping of the region in slot r stands
-pub record Accepted (s t : Space) (f g : List ℕ) (r addr : ℕ) (o : Offset) (vmo at len permissions flags : ℕ) : Type 0 where
+pub record Accepted (s t : Space) (f g : List ℕ) (r addr : ℕ) (o : Offset) (vmo vmo-len at len permissions flags : ℕ) (faults : Bool) : Type 0 where
   pub passes : Passes t g
   pub arrays : Arrays t
   pub mapping : NewMapping s t r (freeMapping s) vmo at len permissions
   pub kept : MappingsKept s t (freeMapping s)
   pub pages : PagesGiven f g (freeMapping s) (len / 4096) flags
+  -- the permissions grant the rights, and the range lies in the VMO unless faults are allowed
+  pub granted : grants permissions (rights flags) ≡ true
+  pub within : faults ≡ false → at + len ≤ vmo-len
   -- the answer is its address, of a whole page
   pub address : mappingAt t (freeMapping s) .addr ≡ addr
   pub aligned : addr % 4096 ≡ 0
@@ -77,7 +80,7 @@ pub record Maps (s : Space) (f : List ℕ) (id : ℕ) (o : Offset) (vmo vmo-len 
   pub nowhere : mapped s f id o vmo vmo-len at len permissions flags faults .result ≡ result.Refused NoMemory → (o ≡ offset.None) × NoFit s (slotOf s id) len 4096
   pub accepted : (addr : ℕ) → mapped s f id o vmo vmo-len at len permissions flags faults .result ≡ result.Mapped addr
       → Accepted s (mapped s f id o vmo vmo-len at len permissions flags faults .space) f (mapped s f id o vmo vmo-len at len permissions flags faults .flags)
-      (slotOf s id) addr o vmo at len permissions flags
+      (slotOf s id) addr o vmo vmo-len at len permissions flags faults
   -- ids "never come back", refused or not
   pub later : Later s (mapped s f id o vmo vmo-len at len permissions flags faults .space)
 
