@@ -1,3 +1,4 @@
 pub mod Range
 pub mod Space
 pub mod Passes
+pub mod Arrays

@@ -13,7 +13,7 @@ use Rattle.space.specs.Passes.{RootRange, Listed, Passes}
 use Rattle.space.specs.declared.Region.{Region}
 use Rattle.space.specs.declared.Mapping.{Mapping}
 use Rattle.space.specs.declared.Space.{Space}
-use Rattle.vmar_laws.specs.Arrays.{Arrays}
+use Rattle.space.specs.Arrays.{Arrays}
 use Rattle.vmar_laws.proofs.Slots.{Fills, here, there, each, blanks}
 use Rattle.vmar.specs.Calls.{newSpace}
 use Rattle.vmar.specs.Laws.{Zeroed, Fresh}

@@ -17,7 +17,7 @@ use Rattle.vmar_allocate.specs.declared.AllocateResult.the-variants as allocate
 use Rattle.vmar_map.specs.Map.{MapDone, mapped}
 use Rattle.vmar_map.specs.declared.MapExtResult.{MapExtResult}
 use Rattle.vmar_map.specs.declared.MapExtResult.the-variants as map
-use Rattle.vmar_laws.specs.Arrays.{Arrays}
+use Rattle.space.specs.Arrays.{Arrays}
 use Rattle.vmar_laws.specs.Allocates as alloc
 use Rattle.vmar_laws.specs.Maps as mapping
 use Rattle.vmar_laws.proofs.Later.{later-none, later-more}

@@ -13,7 +13,7 @@ use Rattle.vmar_allocate.specs.declared.Allocation.{Allocation}
 use Rattle.vmar_allocate.specs.declared.AllocateResult.the-variants as allocate
 use Rattle.vmar_map.specs.Map.{MapDone}
 use Rattle.vmar_map.specs.declared.MapExtResult.the-variants as map
-use Rattle.vmar_laws.specs.Arrays.{Arrays}
+use Rattle.space.specs.Arrays.{Arrays}
 use Rattle.vmar_laws.specs.Later.{Later}
 use Rattle.vmar_laws.specs.Allocates as allocates
 use Rattle.vmar_laws.specs.Maps as maps

@@ -27,7 +27,7 @@ use Rattle.vmar_allocate.specs.declared.AllocateResult.{AllocateResult}
 use Rattle.vmar_allocate.specs.declared.AllocateResult.the-variants as result
 use Rattle.vmar_allocate.specs.declared.Allocation.{Allocation}
 use Rattle.vmar_allocate.proofs.Allocates.{no-slot, no-id, made, never-issued, unknown, dead, alive}
-use Rattle.vmar_laws.specs.Arrays.{Arrays}
+use Rattle.space.specs.Arrays.{Arrays}
 use Rattle.vmar_laws.specs.Later.{Later}
 use Rattle.vmar_laws.specs.Search.{FreeIn, NoFit}
 use Rattle.vmar_laws.specs.Allocates.{NewChild, Accepted, AllocatesAll}

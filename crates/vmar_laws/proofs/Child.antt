@@ -14,7 +14,7 @@ use Rattle.space.specs.Passes.{In, RootRange, Tree, Inside, Apart, Ids, Passes}
 use Rattle.space.specs.declared.Region.{Region}
 use Rattle.space.specs.declared.Space.{Space}
 use Rattle.space.proofs.Facts.{region-place, region-room}
-use Rattle.vmar_laws.specs.Arrays.{Arrays}
+use Rattle.space.specs.Arrays.{Arrays}
 use Rattle.vmar_laws.specs.Search.{FreeIn}
 use Rattle.vmar_laws.proofs.Lists.{last-place, early-place, still-in, listed-more}
 use Rattle.vmar_laws.proofs.Ranges.{flip}

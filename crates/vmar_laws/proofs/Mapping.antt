@@ -15,7 +15,7 @@ use Rattle.space.specs.Passes.{Inside, Apart, Paged, Pages, others, pageAt, Pas
 use Rattle.space.specs.declared.Mapping.{Mapping}
 use Rattle.space.specs.declared.Space.{Space}
 use Rattle.space.proofs.Facts.{mapping-room}
-use Rattle.vmar_laws.specs.Arrays.{Arrays}
+use Rattle.space.specs.Arrays.{Arrays}
 use Rattle.vmar_laws.specs.Search.{FreeIn}
 use Rattle.vmar_laws.specs.Maps.{PagesGiven}
 use Rattle.vmar_laws.proofs.Lists.{listed-more}

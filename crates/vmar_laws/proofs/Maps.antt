@@ -7,6 +7,7 @@ use mathlib.Core.Logic.{_⊎_, inl, inr, ⊎-elim}
 use native.Mathlib.Omega.{arith}
 use lib.Dec.{leb, ltb, eqb}
 use borrow.Author.Tests.{leb-true, ltb-false, eqb-true, eqb-false, not-false}
+use Rattle.paging.proofs.Cases.{clash}
 use Rattle.common.specs.Flags.{knownPage}
 use Rattle.scan.proofs.Scans.{tell, before-first}
 use Rattle.vm.specs.Align.{multiple}
@@ -18,7 +19,6 @@ use Rattle.space.specs.declared.Mapping.{Mapping}
 use Rattle.space.specs.declared.Space.{Space}
 use Rattle.space.proofs.Ranges.{inner, sum-fits}
 use Rattle.space.proofs.Facts.{mapping-room, region-end}
-use Rattle.space.proofs.Tests.{clash}
 use Rattle.vmar_offset.specs.Offset.{slotOf, isFreeMapping, freeMapping, determineOffset}
 use Rattle.vmar_offset.specs.declared.Offset.{Offset}
 use Rattle.vmar_offset.specs.declared.Offset.the-variants as asked
@@ -31,7 +31,7 @@ use Rattle.vmar_map.specs.declared.MapExtResult.the-variants as result
 use Rattle.vmar_map.specs.declared.Tested.{Tested}
 use Rattle.vmar_map.specs.declared.Tested.the-variants as test
 use Rattle.vmar_map.proofs.Maps.{odd-offset, odd-length, over, denied, faulting, past-vmo, in-vmo, unaligned, too-many, no-slot, made, dead, alive, never-issued, unknown-permissions, unknown-flags, known-all}
-use Rattle.vmar_laws.specs.Arrays.{Arrays}
+use Rattle.space.specs.Arrays.{Arrays}
 use Rattle.vmar_laws.specs.Later.{Later}
 use Rattle.vmar_laws.specs.Search.{FreeIn, NoFit}
 use Rattle.vmar_laws.specs.Maps.{NewMapping, PagesGiven, Accepted, MapsAll}

@@ -16,7 +16,7 @@ use Rattle.vmar_offset.specs.declared.Offset.{Offset}
 use Rattle.vmar_offset.specs.declared.Offset.the-variants as offset
 use Rattle.vmar_allocate.specs.Allocate.{allocated}
 use Rattle.vmar_allocate.specs.declared.AllocateResult.the-variants as result
-use Rattle.vmar_laws.specs.Arrays.{Arrays}
+use Rattle.space.specs.Arrays.{Arrays}
 use Rattle.vmar_laws.specs.Later.{Later}
 use Rattle.vmar_laws.specs.Search.{FreeIn, FirstFit, NoFit}
 

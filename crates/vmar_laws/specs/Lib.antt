@@ -1,4 +1,3 @@
-pub mod Arrays
 pub mod Later
 pub mod Search
 pub mod Allocates

@@ -5,6 +5,7 @@ use Prim.Native.Nat.{ℕ, _+_, _/_, _%_, _≤_, _<_}
 use mathlib.Core.Path.{_≡_}
 use mathlib.Core.Bool.{Bool, true, false}
 use mathlib.Core.List.{List}
+use Rattle.common.specs.Flags.{grants, rights}
 use Rattle.refusal.specs.declared.Refusal.{Refusal}
 use Rattle.refusal.specs.declared.Refusal.the-variants.{NoMemory}
 use Rattle.space.specs.Space.{regionAt, mappingAt, isMapping, mappingPlace}
@@ -13,9 +14,9 @@ use Rattle.space.specs.declared.Space.{Space}
 use Rattle.vmar_offset.specs.Offset.{slotOf, freeMapping}
 use Rattle.vmar_offset.specs.declared.Offset.{Offset}
 use Rattle.vmar_offset.specs.declared.Offset.the-variants as offset
-use Rattle.vmar_map.specs.Map.{grants, rights, mapped}
+use Rattle.vmar_map.specs.Map.{mapped}
 use Rattle.vmar_map.specs.declared.MapExtResult.the-variants as result
-use Rattle.vmar_laws.specs.Arrays.{Arrays}
+use Rattle.space.specs.Arrays.{Arrays}
 use Rattle.vmar_laws.specs.Later.{Later}
 use Rattle.vmar_laws.specs.Search.{FreeIn, FirstFit, NoFit}
 

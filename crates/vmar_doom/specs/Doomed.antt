@@ -1,0 +1,26 @@
+-- The regions that go when [b, e) is cut out of region r. The Rust's `unmap_inner` destroys each child of r that lies within the range, and `destroy_internal` all below it.
+-- Document 01, 'Regions': "Ranges are half-open for overlap"; within is closed, as the Rust's.
+use Prim.Native.Nat.{ℕ, _-_, _<_}
+use mathlib.Core.Path.{_≡_}
+use mathlib.Core.Bool.{Bool, true, false}
+use mathlib.Core.List.{List}
+use lib.Dec.{eqb}
+use lib.ListN.{getD}
+use Rattle.paging.specs.Choice.{pick, Decided}
+use Rattle.space.specs.Range.{inside}
+use Rattle.space.specs.Space.{regionAt, isRegion}
+use Rattle.space.specs.declared.Region.{Region}
+use Rattle.space.specs.declared.Space.{Space}
+
+-- g is a child of region r and lies within [b, e)
+unfoldable pub isChildIn : Region → ℕ → ℕ → ℕ → Bool
+isChildIn g r b e = pick (eqb (g .parent) r) (inside (g .addr) (g .size) b (e - b)) false
+
+-- slot i holds a region that goes: a child of r within the range, or one whose parent goes
+pub data Doomed (s : Space) (r b e : ℕ) : ℕ → Type 0 where
+  child : (i : ℕ) → i < 32 → isRegion s i ≡ true → isChildIn (regionAt s i) r b e ≡ true → Doomed s r b e i
+  below : (i : ℕ) → i < 32 → isRegion s i ≡ true → Doomed s r b e (regionAt s i .parent) → Doomed s r b e i
+
+-- a list of marks tells of each slot whether its region goes
+abbrev pub Marks : Space → ℕ → ℕ → ℕ → List Bool → Type 0
+Marks s r b e marks = (i : ℕ) → i < 32 → Decided (Doomed s r b e i) (getD marks i false)
