@@ -33,8 +33,9 @@ pub fn doomed(s: Space, r: usize, begin: VirtAddr, end: VirtAddr) -> [bool; 32]
     while k < s.regcount {
         let slot = list[k];
         let g = s.regions[slot];
-        let up = marks[g.parent];
-        marks[slot] = is_child_in(g, r, begin, end) | up;
+        let parent = g.parent;
+        let goes = is_child_in(g, r, begin, end);
+        marks[slot] = goes | marks[parent];
         k += 1;
     }
     marks

@@ -8,7 +8,7 @@ use native.Mathlib.Omega.{arith}
 use lib.Dec.{leb, ltb, eqb}
 use borrow.Author.Tests.{leb-true, ltb-false, eqb-true, eqb-false, not-false}
 use Rattle.paging.proofs.Cases.{clash}
-use Rattle.common.specs.Flags.{knownPage}
+use Rattle.common.specs.Flags.{knownPage, grants, rights}
 use Rattle.scan.proofs.Scans.{tell, before-first}
 use Rattle.vm.specs.Align.{multiple}
 use Rattle.refusal.specs.declared.Refusal.{Refusal}
