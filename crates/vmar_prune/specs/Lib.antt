@@ -1,2 +1,3 @@
 pub mod Piece
 pub mod Prune
+pub mod Steps
