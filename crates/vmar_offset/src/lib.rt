@@ -89,7 +89,8 @@ fn child_meets(g: Region, r: usize, begin: u64, len: u64) -> bool
     space::overlap(g.addr, g.size, begin, len)
 }
 
-fn mapping_meets(m: Mapping, r: usize, begin: u64, len: u64) -> bool
+// Whether m is a mapping of region r that overlaps the range.
+pub fn mapping_meets(m: Mapping, r: usize, begin: u64, len: u64) -> bool
     ensures { λ x. ⌜ x ≡ mappingMeets m r begin len ⌝ }
 {
     if !m.live {

@@ -1,0 +1,3 @@
+pub mod Collects
+pub mod Parts
+pub mod Children
