@@ -1,8 +1,12 @@
 -- One turn of a walk over places and its end, for loops that cut and loops that count.
-use Prim.Native.Nat.{ℕ, zero, suc, _+_, _-_, _≤_, _<_}
+use Prim.Native.Nat.{ℕ, zero, suc, _+_, _-_, _*_, _/_, _≤_, _<_}
 use mathlib.Core.Path.{_≡_, refl, sym, _∙_, ap}
 use mathlib.Core.List.{List, [], _∷_, _++_}
+use mathlib.Core.Logic.{⊎-elim}
 use native.Mathlib.Omega.{arith}
+use lib.Dec.{leb, ltb}
+use borrow.Author.Tests.{lt-ltb, le-ltb, le-leb, lt-leb}
+use Rattle.paging.proofs.Cases.{below?}
 use Rattle.table_split.specs.Split.{Tables}
 use Rattle.table_cuts.specs.Cuts.{Cut, cutAll, nonEmpty}
 use Rattle.table_cuts.proofs.Append.{cut-append, cut-none, count-append, count-none}
@@ -38,3 +42,15 @@ module _ (f : ℕ → List Cut) (k n : ℕ) where
 -- at the start all is left
 pub collect-start : (f : ℕ → List Cut) (n : ℕ) → collect f 0 (n - 0) ≡ collect f 0 n
 collect-start f n = let e : n - 0 ≡ n = omega arith in ap (collect f 0) e
+
+-- the cuts of one list after those of another, and whether four frames for each suffice
+pub both-cut : (n : ℕ) (xs ys : List Cut) (t u v : Tables) → u ≡ cutAll n xs t → v ≡ cutAll n ys u → v ≡ cutAll n (xs ++ ys) t
+both-cut n xs ys t u v p q = q ∙ ap (cutAll n ys) p ∙ sym (cut-append n xs ys t)
+
+pub both-room : (xs ys : List Cut) (free x y : ℕ) → x ≡ free / 4 + 1 - nonEmpty xs → y ≡ x - nonEmpty ys → ltb 0 y ≡ leb (4 * nonEmpty (xs ++ ys)) free
+both-room xs ys free x y p q =
+    let z = count-append xs ys in
+    ⊎-elim
+    (λ (l : 0 < y). lt-ltb 0 y l ∙ sym (le-leb (4 * nonEmpty (xs ++ ys)) free (omega arith)))
+    (λ (l : y ≤ 0). le-ltb 0 y l ∙ sym (lt-leb (4 * nonEmpty (xs ++ ys)) free (omega arith)))
+    (below? 0 y)

@@ -54,9 +54,11 @@ returns-2 c =
     let k = c .before .before in
     let w = k .before .before .before .before .before in
     let m = w .before .mapping-meets in
-    let o = w .before .before .before in
-    (cut-met (o .args .m) (o .args .r) (o .args .begin) (o .args .end) _ _ _ _ _ (sym (m .ensures) ∙ not-false (m .result) (w .if1 .left))
-        (k .before .before .before .before .larger .ensures) (k .before .before .smaller .ensures) (k .cut-one .ensures .0), k .cut-one .ensures .1)
+    let o = w .before .before .before in (
+      cut-met (o .args .m) (o .args .r) (o .args .begin) (o .args .end) _ _ _ _ _ (sym (m .ensures) ∙ not-false (m .result) (w .if1 .left))
+          (k .before .before .before .before .larger .ensures) (k .before .before .smaller .ensures) (k .cut-one .ensures .0),
+      k .cut-one .ensures .1,
+    )
 
 pub cut-part-spec : {M : Type 1} → statement M
 cut-part-spec =

@@ -36,8 +36,11 @@ returns-2 c =
     let w = c .before .before .before .before in
     let m = w .before .mapping-meets in
     let o = w .before .before in
-    omega (arith, count-empty (o .args .m) (o .args .r) (o .args .begin) (o .args .end) _ _ (sym (m .ensures) ∙ not-false (m .result) (w .if1 .left))
-    (c .before .before .before .larger .ensures) (c .before .smaller .ensures) (c .if2 .taken))
+    omega (
+      arith,
+      count-empty (o .args .m) (o .args .r) (o .args .begin) (o .args .end) _ _ (sym (m .ensures) ∙ not-false (m .result) (w .if1 .left))
+          (c .before .before .before .larger .ensures) (c .before .smaller .ensures) (c .if2 .taken),
+    )
 
 returns-3 : tie.Need-returns-3
 returns-3 c = search needs
@@ -51,8 +54,11 @@ returns-4 c =
     let w = k .before .before .before .before in
     let m = w .before .mapping-meets in
     let o = w .before .before in
-    omega (arith, count-some (o .args .m) (o .args .r) (o .args .begin) (o .args .end) _ _ (sym (m .ensures) ∙ not-false (m .result) (w .if1 .left))
-    (k .before .before .before .larger .ensures) (k .before .smaller .ensures) (k .if2 .left))
+    omega (
+      arith,
+      count-some (o .args .m) (o .args .r) (o .args .begin) (o .args .end) _ _ (sym (m .ensures) ∙ not-false (m .result) (w .if1 .left))
+          (k .before .before .before .larger .ensures) (k .before .smaller .ensures) (k .if2 .left),
+    )
 
 pub room-in-part-spec : {M : Type 1} → statement M
 room-in-part-spec =
