@@ -56,9 +56,83 @@ pub use common::addr;
 pub use common::defs::*;
 
 pub mod vm {
-    pub use crate::arch_vm::PageTable;
     pub use crate::common::vm::*;
-    use crate::{PhysAddr, VirtAddr};
+    use crate::{MMUFlags, PhysAddr, VirtAddr};
+    use std::cell::Cell;
+
+    /// The table of a space: that of the pool that is lent at the time, with the entries that `set_table` chose. Switched off, or while a
+    /// panic unwinds, it cuts nothing: what is dropped then must not change the pool.
+    pub struct PageTable;
+
+    std::thread_local! {
+        static MAKE: Cell<Option<fn() -> Box<dyn GenericPageTable>>> = const { Cell::new(None) };
+        static IS_OFF: Cell<bool> = const { Cell::new(false) };
+    }
+
+    pub fn set_table(make: fn() -> Box<dyn GenericPageTable>) {
+        MAKE.with(|m| m.set(Some(make)));
+    }
+
+    /// Does something with the table switched off.
+    pub fn without_table<T>(f: impl FnOnce() -> T) -> T {
+        IS_OFF.with(|o| o.set(true));
+        let done = f();
+        IS_OFF.with(|o| o.set(false));
+        done
+    }
+
+    fn is_off() -> bool {
+        IS_OFF.with(|o| o.get()) || std::thread::panicking()
+    }
+
+    impl PageTable {
+        pub fn from_current() -> Self {
+            PageTable
+        }
+
+        fn table(&self) -> Box<dyn GenericPageTable> {
+            MAKE.with(|m| m.get()).expect("a table")()
+        }
+
+        // Cloning is left out: the pool's table is the space's own.
+        pub fn clone_kernel(self) -> Self {
+            self
+        }
+    }
+
+    impl GenericPageTable for PageTable {
+        fn table_phys(&self) -> PhysAddr {
+            self.table().table_phys()
+        }
+
+        fn map(&mut self, page: Page, paddr: PhysAddr, flags: MMUFlags) -> PagingResult {
+            self.table().map(page, paddr, flags)
+        }
+
+        fn unmap(&mut self, vaddr: VirtAddr) -> PagingResult<(PhysAddr, PageSize)> {
+            self.table().unmap(vaddr)
+        }
+
+        fn update(
+            &mut self,
+            vaddr: VirtAddr,
+            paddr: Option<PhysAddr>,
+            flags: Option<MMUFlags>,
+        ) -> PagingResult<PageSize> {
+            self.table().update(vaddr, paddr, flags)
+        }
+
+        fn query(&self, vaddr: VirtAddr) -> PagingResult<(PhysAddr, MMUFlags, PageSize)> {
+            self.table().query(vaddr)
+        }
+
+        fn unmap_cont(&mut self, start_vaddr: VirtAddr, size: usize) -> PagingResult {
+            if is_off() {
+                return Ok(());
+            }
+            self.table().unmap_cont(start_vaddr, size)
+        }
+    }
 
     // A page table is made over the lent pool by `from_current`: its root is the pool's first frame.
     pub fn current_vmtoken() -> PhysAddr {
@@ -73,7 +147,30 @@ pub mod vm {
 }
 
 pub mod sync {
-    pub use std::sync::Mutex;
+    use std::sync::{MutexGuard, TryLockError};
+
+    /// A lock that a panic leaves open. Locked twice it would wait for ever, which counts as a call that does not end.
+    pub struct Mutex<T: ?Sized>(std::sync::Mutex<T>);
+
+    impl<T> Mutex<T> {
+        pub const fn new(value: T) -> Self {
+            Mutex(std::sync::Mutex::new(value))
+        }
+    }
+
+    impl<T: ?Sized> Mutex<T> {
+        pub fn try_lock(&self) -> Option<MutexGuard<'_, T>> {
+            match self.0.try_lock() {
+                Ok(guard) => Some(guard),
+                Err(TryLockError::Poisoned(left)) => Some(left.into_inner()),
+                Err(TryLockError::WouldBlock) => None,
+            }
+        }
+
+        pub fn lock(&self) -> MutexGuard<'_, T> {
+            self.try_lock().unwrap_or_else(|| std::panic::panic_any(crate::mem::Endless))
+        }
+    }
 }
 
 pub mod mem {
