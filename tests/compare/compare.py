@@ -6,6 +6,7 @@ import subprocess
 
 import model
 import rules
+import space
 import traces
 
 TOP = os.path.dirname(os.path.dirname(os.path.dirname(os.path.abspath(__file__))))
@@ -27,11 +28,15 @@ class Side:
 
 
 def answer(n, refusal, values, used):
-    return "%d %s %s %d" % (n, refusal, " ".join("%x" % v for v in values), used) if values else "%d %s %d" % (n, refusal, used)
+    """Values are numbers, or text that is written as it is."""
+    if not isinstance(values, str):
+        values = " ".join("%x" % v for v in values)
+    return "%d %s %s %d" % (n, refusal, values, used) if values else "%d %s %d" % (n, refusal, used)
 
 
 class Chunk:
-    """Episodes, their answers by document 01 for the port, and by the rules for the Rust."""
+    """Episodes, their answers by document 01 for the port, and by the rules for the Rust. The Rust holds no slots: where a trace sets the port's
+    records, its regions are given to it again once the space passes its check."""
 
     def __init__(self, steps):
         self.steps = steps
@@ -42,6 +47,9 @@ class Chunk:
         self.refusals = collections.Counter()
         self.rows = collections.Counter()
         self.pool = model.Pool(0x100000, 8, 1)
+        self.space = space.Space(space.USER_ROOT)
+        # whether the Rust holds what the space is
+        self.is_held = True
 
     def add(self, episode):
         self.starts.append(len(self.lines))
@@ -50,12 +58,23 @@ class Chunk:
             n = len(self.lines)
             if line[0] in model.CALLS:
                 self.call(n, line)
+            elif line[0] in space.CALLS:
+                self.hold()
+                self.call(n, line)
             else:
                 self.plain(n, line)
             self.pool.log.clear()
 
+    def hold(self):
+        """Gives the Rust the regions, if it holds others."""
+        if not self.is_held and self.space.is_good():
+            for build in BUILDS:
+                self.sides[build].tell("!tree " + self.space.tree())
+            self.is_held = True
+
     def plain(self, n, line):
         name, refusal, values = line[0], 0, [0]
+        rust = None
         if name == "new":
             self.pool = model.Pool(*line[1:])
         elif name == "word":
@@ -66,19 +85,38 @@ class Chunk:
         elif name == "dump":
             taken = 512 * min(self.pool.used, self.pool.frames)
             values = [v for at in sorted(self.pool.words) if at < taken for v in (at, self.pool.words[at])]
+        elif name in space.ROOTS:
+            self.space = space.Space(space.ROOTS[name])
+            self.is_held = True
+        elif name in space.SETTERS:
+            self.space.set(name, line[1:])
+            self.is_held = False
+        elif name == "space":
+            values, rust = self.space.listing(), [0]
+        elif name == "tree":
+            self.hold()
+            if self.space.is_good():
+                values = self.space.tree()
+            else:
+                refusal = 12
         else:
             refusal = 16
         expected = answer(n, refusal, values, self.pool.used)
         text = traces.text(line)
-        for side in self.sides.values():
-            side.ask(text, expected)
+        self.sides["port"].ask(text, expected)
+        if rust is not None:
+            expected = answer(n, refusal, rust, self.pool.used)
+        elif refusal == 12:
+            expected = None
+        for build in BUILDS:
+            self.sides[build].ask(text, expected)
 
     def call(self, n, line):
-        pool, text = self.pool, traces.text(line)
+        pool, text, is_region = self.pool, traces.text(line), line[0] in space.CALLS
         self.calls += 1
-        expected = {build: rules.rust(pool, line, build == "debug", self.steps) for build in BUILDS}
+        expected = {build: self.rust(line, build == "debug") for build in BUILDS}
         used, mark = pool.used, pool.mark()
-        refusal, values, why = model.call(pool, line)
+        refusal, values, why = space.call(self.space, pool, line) if is_region else model.call(pool, line)
         self.refusals[line[0], refusal] += 1
         ordered = answer(n, refusal, values, pool.used)
         self.sides["port"].ask(text, ordered)
@@ -86,18 +124,25 @@ class Chunk:
             side, e = self.sides[build], expected[build]
             shown = None if e.refusal is None else answer(n, e.refusal, e.values, e.used)
             side.ask(text, shown)
-            if refusal or e.refusal != "0":
+            if refusal or e.refusal != "0" or e.other:
                 side.ask("!undo", (used, e))
-            if not refusal and e.refusal != "0":
-                # the Rust stopped where the port went on
+            if not refusal and (e.refusal != "0" or e.other):
+                # the Rust stopped where the port went on, or did something else
                 for at, word in pool.changes(mark).items():
                     side.tell("!word %x %x" % (at, word))
                 side.tell("!used %x" % pool.used)
-            if shown != ordered or e.kept:
+                if is_region:
+                    side.tell("!tree " + self.space.tree())
+            if shown != ordered or e.kept or e.other:
                 if not e.rows:
                     raise AssertionError("a rule without a row: " + text)
                 for row in e.rows:
                     self.rows[row, build] += 1
+
+    def rust(self, line, debug):
+        if line[0] in space.CALLS:
+            return rules.rust_region(self.space, self.pool, line, debug)
+        return rules.rust(self.pool, line, debug, self.steps)
 
     # Running
 
@@ -133,9 +178,8 @@ class Chunk:
     def show(self, n, name, want, have):
         """The episode up to line n."""
         start = max(s for s in self.starts if s < n)
-        lines = [traces.text(l)[:200] for l in self.lines[start:n] if l[0] not in ("sum", "dump")]
-        return "\n".join(["%s differs, and no rule says so:" % name] + ["    " + l for l in lines] + ["  expected  " + want[:300], "  answered  " + have[:300]])
-
+        lines = [traces.text(l)[:200] for l in self.lines[start:n] if l[0] not in ("sum", "dump", "tree", "space")]
+        return "\n".join(["%s differs, and no rule says so:" % name] + ["    " + l for l in lines] + ["  expected  " + want[:1000], "  answered  " + have[:1000]])
 
 
 def programs(steps, port):

@@ -303,6 +303,25 @@ class Episode:
 
 
 FIELDS = {"new": 3, "word": 2, "dump": 0, "sum": 0, "map": 4, "unmap": 1, "update": 3, "query": 1, "map_cont": 4, "unmap_cont": 2}
+FIELDS.update({"root": 0, "kernel": 0, "alloc": 5, "map_ext": 10, "runmap": 3, "protect": 4, "destroy": 1, "clear": 1, "mflags": 2, "vflags": 2, "check": 4})
+FIELDS.update({"region": 7, "mapping": 8, "reglist": 2, "maplist": 2, "counts": 3, "page": 2, "lend": 1, "space": 0, "tree": 0})
+# fields that may be `-`
+DASHES = {("update", 1), ("update", 2), ("alloc", 1), ("map_ext", 1)}
+# how many a field's number may count up to
+BELOW = {
+    ("new", 1): 65,
+    ("map_ext", 8): 2,
+    ("map_ext", 9): 2,
+    ("region", 0): 32,
+    ("region", 1): 2,
+    ("mapping", 0): 64,
+    ("mapping", 1): 2,
+    ("reglist", 0): 32,
+    ("maplist", 0): 64,
+    ("page", 0): 32768,
+    ("page", 1): 256,
+    ("lend", 0): 32769,
+}
 
 
 def line_of(text, frames):
@@ -320,13 +339,13 @@ def is_readable(line, frames):
         return False
     numbers = []
     for k, field in enumerate(fields):
-        if field == "-" and name == "update" and k > 0:
+        if field == "-" and (name, k) in DASHES:
             continue
         if not 1 <= len(field) <= 16 or field.strip("0123456789abcdef"):
             return False
+        if int(field, 16) >= BELOW.get((name, k), 1 << 64):
+            return False
         numbers.append(int(field, 16))
-    if name == "new":
-        return numbers[1] <= 64
     if name == "word":
         return numbers[0] < 512 * frames
     if name == "map":
