@@ -1,12 +1,6 @@
-// Makes the table calls that standard input lists, one a line, on a pool of up to 64 frames, and writes an answer for each. docs/REPLAY.md has
-// the lines and the answers. Nothing grows with the input: of a line that is longer than any readable one the rest is passed over.
-mod line;
-mod output;
-
-use common::defs::MMUFlags;
-use common::vm::PageSize;
+// Makes the calls that standard input lists, one a line, on a pool of up to 64 frames and a space, and writes an answer for each. docs/REPLAY.md
+// has the lines and the answers. Nothing grows with the input: of a line that is longer than any readable one the rest is passed over.
 use libc::STDIN_FILENO;
-use line::Line;
 use refusal::Refusal;
 use std::num::wrapping_add_u64;
 use table::NewAddr;
@@ -16,13 +10,21 @@ use table::UnmapResult;
 use table::UpdateResult;
 use table_map::MapResult;
 use table_unmap_cont::UnmapContResult;
+use trace_line::Fields;
+use trace_line::Line;
+use trace_line::What;
+use trace_space::Held;
 ghost use Prim.Native.Nat.{_≤_, _<_};
 ghost use lib.ListN.{length};
 
 const FRAME_WORDS: usize = 512;
 
-// The pool apart from its words, and how far the program has come.
+// Refusal number of a space that fails its check.
+const BAD_SPACE: u64 = 12;
+
+// The pool apart from its words, the space apart from its page flags, and how far the program has come.
 struct State {
+    held: Held,
     base: u64,
     frames: usize,
     used: usize,
@@ -162,24 +164,25 @@ fn made(pool: &mut [u64], base: u64, used: usize, what: Line) -> Answer {
         Line::UnmapCont(vaddr, size) => unmap_cont(pool, base, used, vaddr, size),
         Line::New(_, _, _) => unreadable(used),
         Line::Dump => unreadable(used),
+        Line::Space(_) => unreadable(used),
         Line::Unreadable => unreadable(used),
     }
 }
 
 fn number(out: &mut [u8], waiting: usize, n: u64) -> usize {
-    let waiting = output::byte(out, waiting, b' ');
-    output::hex(out, waiting, n)
+    let waiting = trace_output::byte(out, waiting, b' ');
+    trace_output::hex(out, waiting, n)
 }
 
 fn count(out: &mut [u8], waiting: usize, n: u64) -> usize {
-    let waiting = output::byte(out, waiting, b' ');
-    output::decimal(out, waiting, n)
+    let waiting = trace_output::byte(out, waiting, b' ');
+    trace_output::decimal(out, waiting, n)
 }
 
 // The end of an answer: the frames in use.
 fn finish(out: &mut [u8], waiting: usize, used: usize) -> usize {
     let waiting = count(out, waiting, used as u64);
-    output::byte(out, waiting, b'\n')
+    trace_output::byte(out, waiting, b'\n')
 }
 
 fn write_values(out: &mut [u8], waiting: usize, answer: Answer) -> usize {
@@ -276,45 +279,175 @@ fn make(words: &mut [u64], out: &mut [u8], state: State, what: Line) -> State {
     after
 }
 
-// Answers a line.
-fn reply(words: &mut [u64], out: &mut [u8], state: State, what: Line) -> State {
+// A line of the space that is no listing.
+fn make_space(
+    words: &[u64],
+    pages: &mut [u8],
+    out: &mut [u8],
+    state: State,
+    what: What,
+    fields: Fields,
+) -> State {
+    let mut after = state;
+    let len = words_of(state.frames, words);
+    let reply = trace_space::answer(
+        state.held,
+        pages,
+        &words[..len],
+        state.base,
+        state.used,
+        what,
+        fields,
+    );
+    after.held = reply.held;
+    let answer = Answer {
+        number: reply.number,
+        used: state.used,
+        many: 1,
+        a: reply.value,
+        b: 0,
+        c: 0,
+    };
+    after.waiting = write_answer(out, state.waiting, answer);
+    after
+}
+
+fn list_space(pages: &[u8], out: &mut [u8], state: State) -> State {
+    let mut after = state;
+    let waiting = count(out, state.waiting, 0);
+    let waiting = trace_space::write_space(state.held, pages, out, waiting);
+    after.waiting = finish(out, waiting, state.used);
+    after
+}
+
+// Of a space that passes its check.
+fn list_tree(pages: &[u8], out: &mut [u8], state: State) -> State {
+    let mut after = state;
+    if !trace_space::is_good(state.held, pages) {
+        after.waiting = write_answer(out, state.waiting, refused(BAD_SPACE, state.used));
+        return after;
+    }
+    let waiting = count(out, state.waiting, 0);
+    let waiting = trace_space::write_tree(state.held, pages, out, waiting);
+    after.waiting = finish(out, waiting, state.used);
+    after
+}
+
+fn reply_space(
+    words: &[u64],
+    pages: &mut [u8],
+    out: &mut [u8],
+    state: State,
+    what: What,
+    fields: Fields,
+) -> State {
+    match what {
+        What::Space => list_space(pages, out, state),
+        What::Tree => list_tree(pages, out, state),
+        _ => make_space(words, pages, out, state, what, fields),
+    }
+}
+
+// The line's number, before its answer.
+fn begin(out: &mut [u8], state: State) -> State {
     let mut after = state;
     after.lines = wrapping_add_u64(state.lines, 1);
     after.len = 0;
-    after.waiting = output::decimal(out, state.waiting, after.lines);
+    after.waiting = trace_output::decimal(out, state.waiting, after.lines);
+    after
+}
+
+// Answers a line.
+fn reply(
+    words: &mut [u64],
+    pages: &mut [u8],
+    line: &[u8],
+    out: &mut [u8],
+    state: State,
+    what: Line,
+) -> State {
+    let state = begin(out, state);
     match what {
-        Line::New(base, frames, used) => renew(words, out, after, base, frames, used),
-        Line::Dump => dump(words, out, after),
-        _ => make(words, out, after, what),
+        Line::New(base, frames, used) => renew(words, out, state, base, frames, used),
+        Line::Dump => dump(words, out, state),
+        Line::Space(on) => {
+            reply_space(words, pages, out, state, on, trace_line::fields_of(line))
+        }
+        _ => make(words, out, state, what),
     }
 }
 
 // A line that does not fit is unreadable.
-fn end_line(words: &mut [u64], line: &[u8], out: &mut [u8], state: State) -> State {
+fn end_line(
+    words: &mut [u64],
+    pages: &mut [u8],
+    line: &[u8],
+    out: &mut [u8],
+    state: State,
+) -> State {
     let len = state.len;
     if line.len() < len {
-        return reply(words, out, state, Line::Unreadable);
+        return reply(words, pages, line, out, state, Line::Unreadable);
     }
-    reply(words, out, state, line::parse(&line[..len]))
+    let text = &line[..len];
+    reply(words, pages, text, out, state, trace_line::parse(text))
 }
 
-fn take(words: &mut [u64], line: &mut [u8], out: &mut [u8], state: State, b: u8) -> State {
-    if b == b'\n' {
-        return end_line(words, line, out, state);
+// Where the line that goes on at `from` ends: at its newline, or with the input.
+fn line_end(input: &[u8], from: usize) -> usize
+    requires { ⌜ from ≤ length (now input) ⌝ }
+    ensures { λ r. ⌜ (from ≤ r) × (r ≤ length (now (input .entry))) ⌝ }
+{
+    let mut i = from;
+    while i < input.len() {
+        if input[i] == b'\n' {
+            return i;
+        }
+        i += 1;
     }
-    let mut after = state;
-    let len = state.len;
+    i
+}
+
+// A byte more of the line. One that does not fit is counted and not kept.
+fn put(line: &mut [u8], len: usize, b: u8) -> usize {
     if len < line.len() {
         line[len] = b;
-        after.len = len + 1;
-        return after;
+        return len + 1;
     }
-    after.len = line.len() + 1;
+    line.len() + 1
+}
+
+fn append(line: &mut [u8], len: usize, bytes: &[u8]) -> usize {
+    let mut now = len;
+    let mut i = 0;
+    while i < bytes.len() {
+        now = put(line, now, bytes[i]);
+        i += 1;
+    }
+    now
+}
+
+// Bytes of a line, and whether they end it.
+fn take(
+    words: &mut [u64],
+    pages: &mut [u8],
+    line: &mut [u8],
+    out: &mut [u8],
+    state: State,
+    bytes: &[u8],
+    is_end: bool,
+) -> State {
+    let mut after = state;
+    after.len = append(line, state.len, bytes);
+    if is_end {
+        return end_line(words, pages, line, out, after);
+    }
     after
 }
 
 fn take_all(
     words: &mut [u64],
+    pages: &mut [u8],
     line: &mut [u8],
     out: &mut [u8],
     state: State,
@@ -323,10 +456,11 @@ fn take_all(
     let mut now = state;
     let mut i = 0;
     while i < input.len() {
-        now = take(words, line, out, now, input[i]);
-        i += 1;
+        let to = line_end(input, i);
+        now = take(words, pages, line, out, now, &input[i..to], to < input.len());
+        i = to + 1;
     }
-    output::flush(out, now.waiting);
+    trace_output::flush(out, now.waiting);
     now.waiting = 0;
     now
 }
@@ -334,6 +468,7 @@ fn take_all(
 // Reads once, and answers the lines that end there.
 fn turn(
     words: &mut [u64],
+    pages: &mut [u8],
     line: &mut [u8],
     out: &mut [u8],
     input: &mut [u8],
@@ -345,7 +480,7 @@ fn turn(
         after.is_ended = true;
         return after;
     }
-    take_all(words, line, out, state, &input[..n])
+    take_all(words, pages, line, out, state, &input[..n])
 }
 
 // How many turns are left after one.
@@ -359,6 +494,7 @@ fn left(turns: u64, is_ended: bool) -> u64
 // A loop has to end, and nothing says that the input does: this one counts down from more turns than any run has.
 fn read_all(
     words: &mut [u64],
+    pages: &mut [u8],
     line: &mut [u8],
     out: &mut [u8],
     input: &mut [u8],
@@ -367,27 +503,35 @@ fn read_all(
     let mut now = state;
     let mut turns = u64::MAX;
     while 0 < turns {
-        now = turn(words, line, out, input, now);
+        now = turn(words, pages, line, out, input, now);
         turns = left(turns, now.is_ended);
     }
     now
 }
 
 // A last line without an end is a line.
-fn end_input(words: &mut [u64], line: &[u8], out: &mut [u8], state: State) {
+fn end_input(
+    words: &mut [u64],
+    pages: &mut [u8],
+    line: &[u8],
+    out: &mut [u8],
+    state: State,
+) {
     if state.len == 0 {
         return;
     }
-    let after = end_line(words, line, out, state);
-    output::flush(out, after.waiting);
+    let after = end_line(words, pages, line, out, state);
+    trace_output::flush(out, after.waiting);
 }
 
 fn main() {
     let mut words = [0u64; 32768];
-    let mut line = [0u8; 96];
+    let mut pages = [0u8; 32768];
+    let mut line = [0u8; 192];
     let mut out = io::large_buffer();
     let mut input = io::large_buffer();
     let state = State {
+        held: trace_space::fresh(),
         base: 0x10_0000,
         frames: 8,
         used: 1,
@@ -396,6 +540,6 @@ fn main() {
         waiting: 0,
         is_ended: false,
     };
-    let after = read_all(&mut words, &mut line, &mut out, &mut input, state);
-    end_input(&mut words, &line, &mut out, after);
+    let after = read_all(&mut words, &mut pages, &mut line, &mut out, &mut input, state);
+    end_input(&mut words, &mut pages, &line, &mut out, after);
 }

@@ -2,8 +2,8 @@
 use native.Mathlib.Omega.{arith}
 use lib.ListN.{length-take}
 use borrow.Author.Needs.{needs}
-use Rattle.vmreplay.proofs.line.is_line.Statement.{statement}
-use Rattle.vmreplay.proofs.line.is_line.Tie as tie
+use Rattle.trace_line.proofs.is_line.Statement.{statement}
+use Rattle.trace_line.proofs.is_line.Tie as tie
 
 end-requires : tie.Need-end-requires
 end-requires c κs = search needs

@@ -2,8 +2,8 @@
 use Prim.Native.Nat.{_≤_, _-_}
 use lib.ListN.{length}
 use borrow.Author.Needs.{needs}
-use Rattle.vmreplay.proofs.line.spaces.Statement.{statement}
-use Rattle.vmreplay.proofs.line.spaces.Tie as tie
+use Rattle.trace_line.proofs.spaces.Statement.{statement}
+use Rattle.trace_line.proofs.spaces.Tie as tie
 
 abbrev Inv-loop : tie.InvT-loop
 Inv-loop line n₀ i₀ n i = (n ≤ i) × (i ≤ length line)

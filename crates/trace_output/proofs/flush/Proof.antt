@@ -2,8 +2,8 @@
 use native.Mathlib.Omega.{arith}
 use lib.ListN.{length-take}
 use borrow.Author.Needs.{needs}
-use Rattle.vmreplay.proofs.output.flush.Statement.{statement}
-use Rattle.vmreplay.proofs.output.flush.Tie as tie
+use Rattle.trace_output.proofs.flush.Statement.{statement}
+use Rattle.trace_output.proofs.flush.Tie as tie
 
 slice-aggregate-write-all : tie.Need-slice-aggregate-write-all
 slice-aggregate-write-all c = simp length-take (omega arith)

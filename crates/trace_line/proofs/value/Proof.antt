@@ -2,8 +2,8 @@
 use Prim.Native.Nat.{_≤_, _-_}
 use lib.ListN.{length}
 use borrow.Author.Needs.{needs}
-use Rattle.vmreplay.proofs.line.value.Statement.{statement}
-use Rattle.vmreplay.proofs.line.value.Tie as tie
+use Rattle.trace_line.proofs.value.Statement.{statement}
+use Rattle.trace_line.proofs.value.Tie as tie
 
 abbrev Inv-loop : tie.InvT-loop
 Inv-loop text n₀ i₀ n i = i ≤ length text

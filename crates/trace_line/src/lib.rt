@@ -3,7 +3,7 @@ use common::defs::MMUFlags;
 use common::vm::PageSize;
 use table::NewAddr;
 use table::NewFlags;
-ghost use Prim.Native.Nat.{_≤_};
+ghost use Prim.Native.Nat.{_≤_, _<_};
 ghost use lib.ListN.{length};
 
 pub const MOST_FRAMES: u64 = 64;
@@ -24,7 +24,37 @@ pub enum Line {
     MapCont(u64, u64, u64, MMUFlags),
     // address, length
     UnmapCont(u64, u64),
+    // a line of the space, whose fields `fields_of` reads
+    Space(What),
     Unreadable,
+}
+
+// What a line does with the space.
+pub enum What {
+    Root,
+    Kernel,
+    Alloc,
+    MapExt,
+    MappingFlags,
+    VaddrFlags,
+    Region,
+    Mapping,
+    Reglist,
+    Maplist,
+    Counts,
+    Page,
+    Lend,
+    Space,
+    Tree,
+}
+
+const MOST_FIELDS: usize = 10;
+
+// The fields of such a line: its numbers, and whether the second is a dash.
+pub struct Fields {
+    pub n: [u64; 10],
+    pub is_dash: bool,
+    pub is_bad: bool,
 }
 
 enum Field {
@@ -250,6 +280,123 @@ fn unmap_cont(line: &[u8]) -> Line {
     Line::UnmapCont(vaddr, size)
 }
 
+// Field k, after those that are read already.
+fn with_field(mut fields: Fields, k: usize, field: Field) -> Fields
+    requires { ⌜ k < 10 ⌝ }
+{
+    match field {
+        Field::Number(n) => fields.n[k] = n,
+        Field::Dash => {
+            if k == 1 {
+                fields.is_dash = true;
+            } else {
+                fields.is_bad = true;
+            }
+        }
+        Field::Bad => fields.is_bad = true,
+    }
+    fields
+}
+
+// The first `many` fields.
+fn read_fields(line: &[u8], many: usize) -> Fields {
+    let none = [0u64; 10];
+    let mut out = Fields {
+        n: none,
+        is_dash: false,
+        is_bad: false,
+    };
+    let mut k = 0;
+    while k < MOST_FIELDS {
+        if k < many {
+            out = with_field(out, k, field_at(line, k + 1));
+        }
+        k += 1;
+    }
+    out
+}
+
+// A dash stands for an offset, and nowhere else.
+fn may_have_dash(what: What) -> bool {
+    match what {
+        What::Alloc => true,
+        What::MapExt => true,
+        _ => false,
+    }
+}
+
+// The fields of a line of the space.
+pub fn fields_of(line: &[u8]) -> Fields {
+    read_fields(line, spaces(line))
+}
+
+// The line, if its fields are in order.
+fn with_fields(line: &[u8], what: What, many: usize) -> Line {
+    let f = read_fields(line, many);
+    if f.is_bad {
+        return Line::Unreadable;
+    }
+    if f.is_dash {
+        if !may_have_dash(what) {
+            return Line::Unreadable;
+        }
+    }
+    Line::Space(what)
+}
+
+fn parse_space(line: &[u8]) -> Line {
+    if is_line(line, b"alloc", 5) {
+        return with_fields(line, What::Alloc, 5);
+    }
+    if is_line(line, b"map_ext", 10) {
+        return with_fields(line, What::MapExt, 10);
+    }
+    if is_line(line, b"mflags", 2) {
+        return with_fields(line, What::MappingFlags, 2);
+    }
+    if is_line(line, b"vflags", 2) {
+        return with_fields(line, What::VaddrFlags, 2);
+    }
+    if is_line(line, b"tree", 0) {
+        return with_fields(line, What::Tree, 0);
+    }
+    if is_line(line, b"space", 0) {
+        return with_fields(line, What::Space, 0);
+    }
+    if is_line(line, b"root", 0) {
+        return with_fields(line, What::Root, 0);
+    }
+    if is_line(line, b"kernel", 0) {
+        return with_fields(line, What::Kernel, 0);
+    }
+    parse_setter(line)
+}
+
+fn parse_setter(line: &[u8]) -> Line {
+    if is_line(line, b"region", 7) {
+        return with_fields(line, What::Region, 7);
+    }
+    if is_line(line, b"mapping", 8) {
+        return with_fields(line, What::Mapping, 8);
+    }
+    if is_line(line, b"reglist", 2) {
+        return with_fields(line, What::Reglist, 2);
+    }
+    if is_line(line, b"maplist", 2) {
+        return with_fields(line, What::Maplist, 2);
+    }
+    if is_line(line, b"counts", 3) {
+        return with_fields(line, What::Counts, 3);
+    }
+    if is_line(line, b"page", 2) {
+        return with_fields(line, What::Page, 2);
+    }
+    if is_line(line, b"lend", 1) {
+        return with_fields(line, What::Lend, 1);
+    }
+    Line::Unreadable
+}
+
 pub fn parse(line: &[u8]) -> Line {
     if is_line(line, b"query", 1) {
         return query(line);
@@ -281,5 +428,5 @@ pub fn parse(line: &[u8]) -> Line {
     if is_line(line, b"sum", 0) {
         return Line::Sum;
     }
-    Line::Unreadable
+    parse_space(line)
 }

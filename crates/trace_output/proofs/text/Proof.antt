@@ -3,8 +3,8 @@ use mathlib.Core.Path.{_≡_}
 use Prim.Native.Nat.{_≤_, _-_}
 use lib.ListN.{length}
 use borrow.Author.Needs.{needs}
-use Rattle.vmreplay.proofs.output.text.Statement.{statement}
-use Rattle.vmreplay.proofs.output.text.Tie as tie
+use Rattle.trace_output.proofs.text.Statement.{statement}
+use Rattle.trace_output.proofs.text.Tie as tie
 
 abbrev Inv-loop : tie.InvT-loop
 Inv-loop out₀ waiting bytes now₀ i₀ out now i = (i ≤ length bytes) × (length out ≡ length out₀)
