@@ -84,7 +84,8 @@ fn alloc(held: Held, pages: &[u8], f: Fields) -> Reply {
         VmarFlags(f.n[3]),
         f.n[4],
     );
-    match out.result {
+    let result = out.result;
+    match result {
         AllocateResult::Region(id) => done(out.space, held.lent, id),
         AllocateResult::Refused(why) => refused(out.space, held.lent, why),
     }
@@ -123,7 +124,8 @@ fn map_ext(
         MMUFlags(f.n[7]),
         f.n[9] == 1,
     );
-    match out.result {
+    let result = out.result;
+    match result {
         MapExtResult::Mapped(addr) => done(out.space, held.lent, addr),
         MapExtResult::Refused(why) => refused(out.space, held.lent, why),
     }
@@ -138,7 +140,8 @@ fn flags_reply(space: AddressSpace, lent: usize, result: FlagsResult) -> Reply {
 
 fn mapping_flags(held: Held, pages: &[u8], f: Fields) -> Reply {
     let out = held.space.get_mapping_flags(pages, f.n[0], f.n[1]);
-    flags_reply(out.space, held.lent, out.result)
+    let result = out.result;
+    flags_reply(out.space, held.lent, result)
 }
 
 fn vaddr_flags(
@@ -150,7 +153,8 @@ fn vaddr_flags(
     f: Fields,
 ) -> Reply {
     let out = held.space.get_vaddr_flags(pages, pool, base, used, f.n[0], f.n[1]);
-    flags_reply(out.space, held.lent, out.result)
+    let result = out.result;
+    flags_reply(out.space, held.lent, result)
 }
 
 // A call, with the page flags that are lent.

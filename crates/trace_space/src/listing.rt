@@ -4,7 +4,7 @@ use space::Mapping;
 use space::REGIONS;
 use space::Region;
 use space::Space;
-ghost use Prim.Native.Nat.{_<_};
+ghost use Prim.Native.Nat.{_+_, _≤_, _<_};
 ghost use lib.ListN.{length};
 
 pub fn number(out: &mut [u8], waiting: usize, n: u64) -> usize {
@@ -140,11 +140,15 @@ pub fn records(s: Space, out: &mut [u8], waiting: usize) -> usize {
     maplist(s, out, waiting)
 }
 
+fn page(out: &mut [u8], waiting: usize, i: usize, flags: u8) -> usize {
+    entry(out, waiting, b'f', i, flags as u64)
+}
+
 pub fn page_flags(pages: &[u8], out: &mut [u8], waiting: usize) -> usize {
     let mut now = waiting;
     let mut i = 0;
     while i < pages.len() {
-        now = entry(out, now, b'f', i, pages[i] as u64);
+        now = page(out, now, i, pages[i]);
         i += 1;
     }
     now
@@ -181,16 +185,35 @@ fn run(out: &mut [u8], waiting: usize, flags: u8, many: usize) -> usize {
     number(out, waiting, many as u64)
 }
 
+// The run that began at `from`, if page i ends it.
+fn ended_run(pages: &[u8], out: &mut [u8], waiting: usize, from: usize, i: usize) -> usize
+    requires { ⌜ (from ≤ i) × (i < length (now pages)) ⌝ }
+{
+    if !ends_run(pages, i) {
+        return waiting;
+    }
+    run(out, waiting, pages[i], i + 1 - from)
+}
+
+// Where the run of the page after page i began.
+fn run_start(pages: &[u8], from: usize, i: usize) -> usize
+    requires { ⌜ (from ≤ i) × (i < length (now pages)) ⌝ }
+    ensures { λ r. ⌜ r ≤ i + 1 ⌝ }
+{
+    if ends_run(pages, i) {
+        return i + 1;
+    }
+    from
+}
+
 // The runs of like pages.
 fn runs(pages: &[u8], out: &mut [u8], waiting: usize) -> usize {
     let mut now = waiting;
     let mut from = 0;
     let mut i = 0;
     while i < pages.len() {
-        if ends_run(pages, i) {
-            now = run(out, now, pages[i], i + 1 - from);
-            from = i + 1;
-        }
+        now = ended_run(pages, out, now, from, i);
+        from = run_start(pages, from, i);
         i += 1;
     }
     now
@@ -228,7 +251,7 @@ fn mapping_node(
     mapping_runs(pages, out, waiting, slot, m)
 }
 
-// A mapping, if it is one of region r.
+// A mapping, if it is listed and one of region r.
 fn own_mapping(
     pages: &[u8],
     out: &mut [u8],
@@ -236,7 +259,11 @@ fn own_mapping(
     slot: usize,
     m: Mapping,
     r: usize,
+    is_listed: bool,
 ) -> usize {
+    if !is_listed {
+        return waiting;
+    }
     if m.region != r {
         return waiting;
     }
@@ -247,17 +274,19 @@ fn own_mappings(s: Space, pages: &[u8], out: &mut [u8], waiting: usize, r: usize
     let mut now = waiting;
     let mut k = 0;
     while k < MAPPINGS {
-        if k < s.mapcount {
-            let slot = s.maplist[k];
-            now = own_mapping(pages, out, now, slot, mapping_at(s, slot), r);
-        }
+        let slot = s.maplist[k];
+        let m = mapping_at(s, slot);
+        now = own_mapping(pages, out, now, slot, m, r, k < s.mapcount);
         k += 1;
     }
     now
 }
 
-// The id of a region, if it is a child of region r.
-fn child(out: &mut [u8], waiting: usize, g: Region, r: usize) -> usize {
+// The id of a region, if it is listed and a child of region r.
+fn child(out: &mut [u8], waiting: usize, g: Region, r: usize, is_listed: bool) -> usize {
+    if !is_listed {
+        return waiting;
+    }
     if g.parent != r {
         return waiting;
     }
@@ -269,9 +298,8 @@ fn children(s: Space, out: &mut [u8], waiting: usize, r: usize) -> usize {
     let mut now = waiting;
     let mut k = 0;
     while k < REGIONS {
-        if k < s.regcount {
-            now = child(out, now, region_at(s, s.reglist[k]), r);
-        }
+        let g = region_at(s, s.reglist[k]);
+        now = child(out, now, g, r, k < s.regcount);
         k += 1;
     }
     now
@@ -286,7 +314,18 @@ fn parent(s: Space, out: &mut [u8], waiting: usize, up: usize) -> usize {
     number(out, waiting, g.id)
 }
 
-fn branch(s: Space, pages: &[u8], out: &mut [u8], waiting: usize, r: usize) -> usize {
+// A region with what it holds, if it is listed.
+fn branch(
+    s: Space,
+    pages: &[u8],
+    out: &mut [u8],
+    waiting: usize,
+    r: usize,
+    is_listed: bool,
+) -> usize {
+    if !is_listed {
+        return waiting;
+    }
     let g = region_at(s, r);
     let waiting = letter(out, waiting, b'r');
     let waiting = number(out, waiting, g.id);
@@ -303,9 +342,7 @@ pub fn tree(s: Space, pages: &[u8], out: &mut [u8], waiting: usize) -> usize {
     let mut now = number(out, waiting, s.nextid);
     let mut k = 0;
     while k < REGIONS {
-        if k < s.regcount {
-            now = branch(s, pages, out, now, s.reglist[k]);
-        }
+        now = branch(s, pages, out, now, s.reglist[k], k < s.regcount);
         k += 1;
     }
     now

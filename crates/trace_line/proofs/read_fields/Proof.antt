@@ -3,10 +3,6 @@ use borrow.Author.Needs.{needs}
 use Prim.Native.Nat.{_≤_, _-_}
 use Rattle.trace_line.proofs.read_fields.Statement.{statement}
 use Rattle.trace_line.proofs.read_fields.Tie as tie
-use Rattle.trace_line.proofs.read_fields.Reads as reads
-use Rattle.trace_line.proofs.read_fields.Lts as lts
-use Rattle.trace_line.proofs.field_at.Reads as field-at-reads
-use Rattle.trace_line.proofs.with_field.Reads as with-field-reads
 
 abbrev Inv-loop : tie.InvT-loop
 Inv-loop line many out₀ k₀ out k = k ≤ 10
