@@ -76,14 +76,7 @@ fn offset(f: Fields) -> Offset {
 }
 
 fn alloc(held: Held, pages: &[u8], f: Fields) -> Reply {
-    let out = held.space.allocate(
-        pages,
-        f.n[0],
-        offset(f),
-        f.n[2],
-        VmarFlags(f.n[3]),
-        f.n[4],
-    );
+    let out = held.space.allocate(pages, f.n[0], offset(f), f.n[2], VmarFlags(f.n[3]), f.n[4]);
     let result = out.result;
     match result {
         AllocateResult::Region(id) => done(out.space, held.lent, id),
@@ -92,14 +85,7 @@ fn alloc(held: Held, pages: &[u8], f: Fields) -> Reply {
 }
 
 // Maps that overwrite are not there yet.
-fn map_ext(
-    held: Held,
-    pages: &mut [u8],
-    pool: &[u64],
-    base: u64,
-    used: usize,
-    f: Fields,
-) -> Reply {
+fn map_ext(held: Held, pages: &mut [u8], pool: &[u64], base: u64, used: usize, f: Fields) -> Reply {
     if f.n[8] != 0 {
         return unreadable(held);
     }
@@ -144,15 +130,9 @@ fn mapping_flags(held: Held, pages: &[u8], f: Fields) -> Reply {
     flags_reply(out.space, held.lent, result)
 }
 
-fn vaddr_flags(
-    held: Held,
-    pages: &[u8],
-    pool: &[u64],
-    base: u64,
-    used: usize,
-    f: Fields,
-) -> Reply {
-    let out = held.space.get_vaddr_flags(pages, pool, base, used, f.n[0], f.n[1]);
+fn vaddr_flags(held: Held, pages: &[u8], pool: &[u64], base: u64, used: usize, f: Fields) -> Reply {
+    let out = held.space
+        .get_vaddr_flags(pages, pool, base, used, f.n[0], f.n[1]);
     let result = out.result;
     flags_reply(out.space, held.lent, result)
 }

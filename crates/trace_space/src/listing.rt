@@ -235,13 +235,7 @@ fn mapping_runs(pages: &[u8], out: &mut [u8], waiting: usize, slot: usize, m: Ma
     runs(&pages[at..end], out, waiting)
 }
 
-fn mapping_node(
-    pages: &[u8],
-    out: &mut [u8],
-    waiting: usize,
-    slot: usize,
-    m: Mapping,
-) -> usize {
+fn mapping_node(pages: &[u8], out: &mut [u8], waiting: usize, slot: usize, m: Mapping) -> usize {
     let waiting = letter(out, waiting, b'm');
     let waiting = number(out, waiting, m.addr);
     let waiting = number(out, waiting, m.size);

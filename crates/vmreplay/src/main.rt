@@ -288,7 +288,6 @@ fn make_space(
     what: What,
     fields: Fields,
 ) -> State {
-    let mut after = state;
     let len = words_of(state.frames, words);
     let reply = trace_space::answer(
         state.held,
@@ -299,7 +298,6 @@ fn make_space(
         what,
         fields,
     );
-    after.held = reply.held;
     let answer = Answer {
         number: reply.number,
         used: state.used,
@@ -308,8 +306,18 @@ fn make_space(
         b: 0,
         c: 0,
     };
-    after.waiting = write_answer(out, state.waiting, answer);
-    after
+    let waiting = write_answer(out, state.waiting, answer);
+    let held = reply.held;
+    State {
+        held,
+        base: state.base,
+        frames: state.frames,
+        used: state.used,
+        lines: state.lines,
+        len: state.len,
+        waiting,
+        is_ended: state.is_ended,
+    }
 }
 
 fn list_space(pages: &[u8], out: &mut [u8], state: State) -> State {
@@ -408,6 +416,17 @@ fn line_end(input: &[u8], from: usize) -> usize
     i
 }
 
+// Where the next line begins, once the one that goes on at `from` ends at `to`.
+fn next_line(input: &[u8], from: usize, to: usize) -> usize
+    requires { ⌜ (from < length (now input)) × (from ≤ to) × (to ≤ length (now input)) ⌝ }
+    ensures { λ r. ⌜ (from < r) × (r ≤ length (now (input .entry))) ⌝ }
+{
+    if to < input.len() {
+        return to + 1;
+    }
+    to
+}
+
 // A byte more of the line. One that does not fit is counted and not kept.
 fn put(line: &mut [u8], len: usize, b: u8) -> usize {
     if len < line.len() {
@@ -457,8 +476,16 @@ fn take_all(
     let mut i = 0;
     while i < input.len() {
         let to = line_end(input, i);
-        now = take(words, pages, line, out, now, &input[i..to], to < input.len());
-        i = to + 1;
+        now = take(
+            words,
+            pages,
+            line,
+            out,
+            now,
+            &input[i..to],
+            to < input.len(),
+        );
+        i = next_line(input, i, to);
     }
     trace_output::flush(out, now.waiting);
     now.waiting = 0;
@@ -510,13 +537,7 @@ fn read_all(
 }
 
 // A last line without an end is a line.
-fn end_input(
-    words: &mut [u64],
-    pages: &mut [u8],
-    line: &[u8],
-    out: &mut [u8],
-    state: State,
-) {
+fn end_input(words: &mut [u64], pages: &mut [u8], line: &[u8], out: &mut [u8], state: State) {
     if state.len == 0 {
         return;
     }
@@ -540,6 +561,13 @@ fn main() {
         waiting: 0,
         is_ended: false,
     };
-    let after = read_all(&mut words, &mut pages, &mut line, &mut out, &mut input, state);
+    let after = read_all(
+        &mut words,
+        &mut pages,
+        &mut line,
+        &mut out,
+        &mut input,
+        state,
+    );
     end_input(&mut words, &mut pages, &line, &mut out, after);
 }

@@ -14,11 +14,14 @@ same-length c = search needs
 same-length-2 : tie.Need-same-length-2
 same-length-2 c = search needs
 
+same-length-3 : tie.Need-same-length-3
+same-length-3 c = search needs
+
 returns : tie.Need-returns
 returns c = search needs
 
-slice-aggregate-parse : tie.Need-slice-aggregate-parse
-slice-aggregate-parse c = simp length-take (omega arith)
+slice-aggregate-text : tie.Need-slice-aggregate-text
+slice-aggregate-text c = simp length-take (omega arith)
 
 parse-requires : tie.Need-parse-requires
 parse-requires c κs = search needs
@@ -26,11 +29,14 @@ parse-requires c κs = search needs
 reply-requires-2 : tie.Need-reply-requires-2
 reply-requires-2 c κs = search needs
 
-same-length-3 : tie.Need-same-length-3
-same-length-3 c = search needs
-
 same-length-4 : tie.Need-same-length-4
 same-length-4 c = search needs
+
+same-length-5 : tie.Need-same-length-5
+same-length-5 c = search needs
+
+same-length-6 : tie.Need-same-length-6
+same-length-6 c = search needs
 
 returns-2 : tie.Need-returns-2
 returns-2 c = search needs
@@ -42,10 +48,12 @@ end-line-spec =
     reply-requires
     same-length
     same-length-2
+    same-length-3
     returns
-    slice-aggregate-parse
+    slice-aggregate-text
     parse-requires
     reply-requires-2
-    same-length-3
     same-length-4
+    same-length-5
+    same-length-6
     returns-2)

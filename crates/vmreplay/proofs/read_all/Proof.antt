@@ -6,10 +6,10 @@ use Rattle.vmreplay.proofs.read_all.Statement.{statement}
 use Rattle.vmreplay.proofs.read_all.Tie as tie
 
 abbrev Inv-loop : tie.InvT-loop
-Inv-loop words₀ line₀ out₀ input₀ now₀ turns₀ words line out input now turns = (length words ≡ length words₀) × (length line ≡ length line₀) × (length out ≡ length out₀) × (length input ≡ length input₀)
+Inv-loop words₀ pages₀ line₀ out₀ input₀ now₀ turns₀ words pages line out input now turns = (length words ≡ length words₀) × (length pages ≡ length pages₀) × (length line ≡ length line₀) × (length out ≡ length out₀) × (length input ≡ length input₀)
 
 abbrev μ-loop : tie.MeasureT-loop
-μ-loop words₀ line₀ out₀ input₀ now₀ turns₀ words line out input now turns = turns
+μ-loop words₀ pages₀ line₀ out₀ input₀ now₀ turns₀ words pages line out input now turns = turns
 
 loop-holds : tie.Need-loop-holds Inv-loop μ-loop
 loop-holds c = search needs
@@ -38,6 +38,9 @@ same-length-3 c = search needs
 same-length-4 : tie.Need-same-length-4 Inv-loop μ-loop
 same-length-4 c = search needs
 
+same-length-5 : tie.Need-same-length-5 Inv-loop μ-loop
+same-length-5 c = search needs
+
 returns : tie.Need-returns Inv-loop μ-loop
 returns c = search needs
 
@@ -56,4 +59,5 @@ read-all-spec =
     same-length-2
     same-length-3
     same-length-4
+    same-length-5
     returns)

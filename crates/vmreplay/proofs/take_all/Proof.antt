@@ -7,22 +7,31 @@ use Rattle.vmreplay.proofs.take_all.Statement.{statement}
 use Rattle.vmreplay.proofs.take_all.Tie as tie
 
 abbrev Inv-loop : tie.InvT-loop
-Inv-loop words₀ line₀ out₀ input now₀ i₀ words line out now i = (i ≤ length input) × (length words ≡ length words₀) × (length line ≡ length line₀) × (length out ≡ length out₀)
+Inv-loop words₀ pages₀ line₀ out₀ input now₀ i₀ words pages line out now i = (i ≤ length input) × (length words ≡ length words₀) × (length pages ≡ length pages₀) × (length line ≡ length line₀) × (length out ≡ length out₀)
 
 abbrev μ-loop : tie.MeasureT-loop
-μ-loop words₀ line₀ out₀ input now₀ i₀ words line out now i = length input - i
+μ-loop words₀ pages₀ line₀ out₀ input now₀ i₀ words pages line out now i = length input - i
 
 loop-holds : tie.Need-loop-holds Inv-loop μ-loop
 loop-holds c = search needs
 
-shared-slice-read-take : tie.Need-shared-slice-read-take Inv-loop μ-loop
-shared-slice-read-take c = search needs
+line-end-requires : tie.Need-line-end-requires Inv-loop μ-loop
+line-end-requires c κs = search needs
+
+sub-take : tie.Need-sub-take Inv-loop μ-loop
+sub-take c = search needs
+
+part-take-start : tie.Need-part-take-start Inv-loop μ-loop
+part-take-start c = search needs
+
+part-take-end : tie.Need-part-take-end Inv-loop μ-loop
+part-take-end c = search needs
 
 take-requires : tie.Need-take-requires Inv-loop μ-loop
 take-requires c κs = search needs
 
-add-i : tie.Need-add-i Inv-loop μ-loop
-add-i c = search needs
+next-line-requires : tie.Need-next-line-requires Inv-loop μ-loop
+next-line-requires c κs = search needs
 
 loop-less : tie.Need-loop-less Inv-loop μ-loop
 loop-less c = search needs
@@ -42,6 +51,9 @@ same-length-2 c = search needs
 same-length-3 : tie.Need-same-length-3 Inv-loop μ-loop
 same-length-3 c = search needs
 
+same-length-4 : tie.Need-same-length-4 Inv-loop μ-loop
+same-length-4 c = search needs
+
 returns : tie.Need-returns Inv-loop μ-loop
 returns c = search needs
 
@@ -52,13 +64,17 @@ take-all-spec =
     Inv-loop
     μ-loop
     loop-holds
-    shared-slice-read-take
+    line-end-requires
+    sub-take
+    part-take-start
+    part-take-end
     take-requires
-    add-i
+    next-line-requires
     loop-less
     loop-again
     flush-requires
     same-length
     same-length-2
     same-length-3
+    same-length-4
     returns)
