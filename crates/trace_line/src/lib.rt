@@ -37,6 +37,7 @@ pub enum What {
     MapExt,
     MappingFlags,
     VaddrFlags,
+    Check,
     Region,
     Mapping,
     Reglist,
@@ -356,6 +357,9 @@ fn parse_space(line: &[u8]) -> Line {
     }
     if is_line(line, b"vflags", 2) {
         return with_fields(line, What::VaddrFlags, 2);
+    }
+    if is_line(line, b"check", 4) {
+        return with_fields(line, What::Check, 4);
     }
     if is_line(line, b"tree", 0) {
         return with_fields(line, What::Tree, 0);

@@ -14,6 +14,7 @@ use vmar_lookup::FlagsResult;
 use vmar_map::MapExtResult;
 use vmar_map::Vmo;
 use vmar_offset::Offset;
+use vmar_user_range::UserRangeResult;
 
 // A space, and how many page flags are lent with it.
 pub struct Held {
@@ -137,6 +138,16 @@ fn vaddr_flags(held: Held, pages: &[u8], pool: &[u64], base: u64, used: usize, f
     flags_reply(out.space, held.lent, result)
 }
 
+fn check(held: Held, pages: &[u8], f: Fields) -> Reply {
+    let out = held.space
+        .check_user_range(pages, f.n[0], f.n[1], f.n[2], MMUFlags(f.n[3]));
+    let result = out.result;
+    match result {
+        UserRangeResult::Allowed => done(out.space, held.lent, 0),
+        UserRangeResult::Refused(why) => refused(out.space, held.lent, why),
+    }
+}
+
 // A call, with the page flags that are lent.
 fn call(
     held: Held,
@@ -152,6 +163,7 @@ fn call(
         What::MapExt => map_ext(held, pages, pool, base, used, f),
         What::MappingFlags => mapping_flags(held, pages, f),
         What::VaddrFlags => vaddr_flags(held, pages, pool, base, used, f),
+        What::Check => check(held, pages, f),
         _ => unreadable(held),
     }
 }
