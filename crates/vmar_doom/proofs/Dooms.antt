@@ -1,10 +1,11 @@
 -- A region goes exactly when it is a child within the range or its parent goes; marks made in the order of the list say so.
-use Prim.Native.Nat.{ℕ, _+_, _≤_, _<_}
+use Prim.Native.Nat.{ℕ, zero, suc, _+_, _≤_, _<_}
 use mathlib.Core.Path.{_≡_, refl, sym, _∙_, subst}
 use mathlib.Core.Bool.{Bool, true, false, _||_}
 use mathlib.Core.List.{List}
 use mathlib.Core.Logic.{_⊎_, inl, inr, ⊎-elim}
 use native.Mathlib.Omega.{arith}
+use native.Mathlib.Numerals.{add-one}
 use borrow.Author.Tests.{ne-eqb}
 use lib.Dec.{eqb}
 use lib.ListN.{length, getD, set, replicate, getD-replicate, length-set, List·getD-eq-default}
@@ -17,7 +18,7 @@ use Rattle.space.specs.Space.{regionAt, isRegion, regionPlace}
 use Rattle.space.specs.Passes.{Passes}
 use Rattle.space.specs.declared.Space.{Space}
 use Rattle.space.proofs.Facts.{region-place}
-use Rattle.vmar_doom.specs.Doomed.{isChildIn, Doomed, child, below, Marks}
+use Rattle.vmar_doom.specs.Doomed.{isChildIn, Doomed, child, below, markedTo, marked, Marks}
 
 none : (i : ℕ) → getD (replicate 32 false) i false ≡ false
 none i = ⊎-elim (λ (l : i < 32). getD-replicate 32 i false false l) (λ (l : 32 ≤ i). List·getD-eq-default (replicate 32 false) false l) (below? i 32)
@@ -46,71 +47,48 @@ module _ (s : Space) (r b e : ℕ) where
     pub told : (j : ℕ) → j < k → Decided (Doomed s r b e (regionPlace s j)) (getD marks (regionPlace s j) false)
     pub rest : (i : ℕ) → ((j : ℕ) → j < k → regionPlace s j ≡ i → ⊥) → getD marks i false ≡ false
 
-  module _ {flags : List ℕ} (p : Passes s flags) (low : r < 32) where
-    -- the root stays: it is no child
-    root-stays : 0 < s .regcount → Doomed s r b e (regionPlace s 0) → ⊥
-    unfolding isChildIn
-    root-stays l d =
-        ⊎-elim
-        (λ (z : isChildIn (regionAt s (regionPlace s 0)) r b e ≡ true).
-        let n : eqb (regionAt s (regionPlace s 0) .parent) r ≡ false = ne-eqb (regionAt s (regionPlace s 0) .parent) r (λ q. omega (arith, top, q)) in
-        no-truth (rw n at z))
-        (λ (z : Doomed s r b e (regionAt s (regionPlace s 0) .parent)). let q = doomed-lives (regionAt s (regionPlace s 0) .parent) z .0 in omega (arith, top))
-        (doomed-why (regionPlace s 0) d)
-      where
-        top : regionAt s (regionPlace s 0) .parent ≡ 32
-        top = ⊎-elim (λ (q : regionAt s (regionPlace s 0) .parent ≡ 32). q) (λ (n : regionAt s (regionPlace s 0) .parent ≡ 32 → ⊥). let m = p .tree .parent 0 l n in absurd (omega (arith, m .1))) (same? _ _)
+  module _ {flags : List ℕ} (p : Passes s flags) where
+    none-marked : Marked 0 (replicate 32 false)
+    none-marked = record { long = refl; told = λ j l. absurd (omega arith); rest = λ i n. none i }
 
-    pub none-marked : 0 < s .regcount → Marked 1 (replicate 32 false)
-    none-marked l = record {
-      long = refl;
-      told = λ j k. let z : 0 ≡ j = omega arith in subst (λ (x : ℕ). Decided (Doomed s r b e (regionPlace s x)) (getD (replicate 32 false) (regionPlace s x) false)) z
-          (subst (Decided (Doomed s r b e (regionPlace s 0))) (sym (none (regionPlace s 0))) (root-stays l));
-      rest = λ i n. none i;
-    }
-
-    -- the parent of the region at place k stands before it
-    pub parent-at : (k : ℕ) → 1 ≤ k → k < s .regcount → (j : ℕ) × (j < k) × (regionPlace s j ≡ regionAt s (regionPlace s k) .parent)
-    parent-at k l h = p .tree .parent k h (λ z. let q = p .tree .root k h z in omega (arith, q))
-
-    pub parent-slot : (k : ℕ) → 1 ≤ k → k < s .regcount → regionAt s (regionPlace s k) .parent < 32
-    parent-slot k l h =
-        let m = parent-at k l h in
-        let n = m .1 in
-        subst (λ (x : ℕ). x < 32) (m .2) (p .regions .slot (m .0) (omega arith))
+    -- what the mark of the parent of the region at place k says; the root's parent is no region
+    parent-told : (k : ℕ) (marks : List Bool) → k < s .regcount → Marked k marks
+        → Decided (Doomed s r b e (regionAt s (regionPlace s k) .parent)) (getD marks (regionAt s (regionPlace s k) .parent) false)
+    parent-told k marks h m = ⊎-elim
+        (λ (q : regionAt s (regionPlace s k) .parent ≡ 32). subst (λ (x : ℕ). Decided (Doomed s r b e x) (getD marks x false)) (sym q)
+        (subst (Decided (Doomed s r b e 32)) (sym (List·getD-eq-default marks false (omega (arith, m .long)))) (λ d. let l = doomed-lives 32 d .0 in omega arith)))
+        (λ (q : regionAt s (regionPlace s k) .parent ≡ 32 → ⊥).
+        let up = p .tree .parent k h q in
+        subst (λ (x : ℕ). Decided (Doomed s r b e x) (getD marks x false)) (up .2) (m .told (up .0) (up .1)))
+        (same? _ _)
 
     -- one place more
-    pub one-marked : (k : ℕ) (marks : List Bool) (goes : Bool) → 1 ≤ k → k < s .regcount → Marked k marks
-        → goes ≡ isChildIn (regionAt s (regionPlace s k)) r b e
-        → Marked (k + 1) (set marks (regionPlace s k) (goes || getD marks (regionAt s (regionPlace s k) .parent) false))
-    one-marked k marks goes l h m c = record { long = length-set marks (regionPlace s k) new ∙ m .long; told = told; rest = rest }
+    one-marked : (k : ℕ) (marks : List Bool) → k < s .regcount → Marked k marks
+        → Marked (suc k) (set marks (regionPlace s k) (isChildIn (regionAt s (regionPlace s k)) r b e || getD marks (regionAt s (regionPlace s k) .parent) false))
+    one-marked k marks h m = record { long = length-set marks (regionPlace s k) new ∙ m .long; told = told; rest = rest }
       where
         new : Bool
-        new = goes || getD marks (regionAt s (regionPlace s k) .parent) false
+        new = isChildIn (regionAt s (regionPlace s k)) r b e || getD marks (regionAt s (regionPlace s k) .parent) false
 
         at : (regionPlace s k < 32) × (isRegion s (regionPlace s k) ≡ true)
         at = region-place p k h
 
-        up : (j : ℕ) × (j < k) × (regionPlace s j ≡ regionAt s (regionPlace s k) .parent)
-        up = parent-at k l h
-
         here : Decided (Doomed s r b e (regionPlace s k)) new
-        here = by-parent (regionPlace s k) goes _ (at .0) (at .1) c
-            (subst (λ (x : ℕ). Decided (Doomed s r b e x) (getD marks x false)) (up .2) (m .told (up .0) (up .1)))
+        here = by-parent (regionPlace s k) (isChildIn (regionAt s (regionPlace s k)) r b e) (getD marks (regionAt s (regionPlace s k) .parent) false) (at .0) (at .1) refl (parent-told k marks h m)
 
-        told : (j : ℕ) → j < k + 1 → Decided (Doomed s r b e (regionPlace s j)) (getD (set marks (regionPlace s k) new) (regionPlace s j) false)
+        told : (j : ℕ) → j < suc k → Decided (Doomed s r b e (regionPlace s j)) (getD (set marks (regionPlace s k) new) (regionPlace s j) false)
         told j n = ⊎-elim
             (λ (z : j < k). subst (Decided (Doomed s r b e (regionPlace s j))) (sym (getD-set-other marks (regionPlace s k) (regionPlace s j) new false (p .regions .once j k z h))) (m .told j z))
             (λ (z : k ≤ j). let y : k ≡ j = omega arith in subst (λ (x : ℕ). Decided (Doomed s r b e (regionPlace s x)) (getD (set marks (regionPlace s k) new) (regionPlace s x) false)) y
             (subst (Decided (Doomed s r b e (regionPlace s k))) (sym (getD-set-same marks (regionPlace s k) new false (omega (arith, at .0, m .long)))) here))
             (below? j k)
 
-        rest : (i : ℕ) → ((j : ℕ) → j < k + 1 → regionPlace s j ≡ i → ⊥) → getD (set marks (regionPlace s k) new) i false ≡ false
+        rest : (i : ℕ) → ((j : ℕ) → j < suc k → regionPlace s j ≡ i → ⊥) → getD (set marks (regionPlace s k) new) i false ≡ false
         rest i n = getD-set-other marks (regionPlace s k) i new false (λ q. n k (omega arith) (sym q)) ∙ m .rest i (λ j z. n j (omega arith))
 
     -- with the whole list behind, every slot is told of
-    pub all-marked : (k : ℕ) (marks : List Bool) → s .regcount ≤ k → k ≤ s .regcount → Marked k marks → Marks s r b e marks
-    all-marked k marks l h m i z = by (isRegion s i) refl
+    all-marked : (marks : List Bool) → Marked (s .regcount) marks → Marks s r b e marks
+    all-marked marks m i z = by (isRegion s i) refl
       where
         by : (t : Bool) → isRegion s i ≡ t → Decided (Doomed s r b e i) (getD marks i false)
         by true a =
@@ -118,3 +96,30 @@ module _ (s : Space) (r b e : ℕ) where
             let n = w .1 in
             subst (λ (x : ℕ). Decided (Doomed s r b e x) (getD marks x false)) (w .2) (m .told (w .0) (omega arith))
         by false a = subst (Decided (Doomed s r b e i)) (sym (m .rest i (λ j n q. clash _ (p .regions .live i z (j, omega arith, q)) a))) (λ d. clash _ (doomed-lives i d .1) a)
+
+    places-marked : (k : ℕ) → k ≤ s .regcount → Marked k (markedTo s r b e k)
+    unfolding markedTo
+    places-marked zero l = none-marked
+    places-marked (suc k) l = one-marked k (markedTo s r b e k) (omega arith) (places-marked k (omega arith))
+
+    -- the marks tell which regions go
+    pub marked-tells : Marks s r b e (marked s r b e)
+    marked-tells = all-marked (marked s r b e) (places-marked (s .regcount) (omega arith))
+
+    pub marked-long : length (marked s r b e) ≡ 32
+    marked-long = places-marked (s .regcount) (omega arith) .long
+
+-- one place more, for the code
+pub more-marked : (s : Space) (r b e k : ℕ)
+    → set (markedTo s r b e k) (regionPlace s k) (isChildIn (regionAt s (regionPlace s k)) r b e || getD (markedTo s r b e k) (regionAt s (regionPlace s k) .parent) false) ≡ markedTo s r b e (k + 1)
+unfolding markedTo
+more-marked s r b e k = rw (add-one k)
+
+pub no-marks : (s : Space) (r b e : ℕ) → replicate 32 false ≡ markedTo s r b e 0
+unfolding markedTo
+no-marks s r b e = refl
+
+pub marked-length : (s : Space) (r b e k : ℕ) → length (markedTo s r b e k) ≡ 32
+unfolding markedTo
+marked-length s r b e zero = refl
+marked-length s r b e (suc k) = length-set (markedTo s r b e k) (regionPlace s k) _ ∙ marked-length s r b e k
