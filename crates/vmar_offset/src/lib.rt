@@ -77,7 +77,7 @@ pub fn free_mapping(s: Space) -> usize
 }
 
 // Whether g is a child of region r that overlaps the range.
-fn child_meets(g: Region, r: usize, begin: u64, len: u64) -> bool
+pub fn child_meets(g: Region, r: usize, begin: u64, len: u64) -> bool
     ensures { λ x. ⌜ x ≡ childMeets g r begin len ⌝ }
 {
     if !g.live {
