@@ -61,6 +61,32 @@ fn allocs(a: AddressSpace, pages: &[u8], n: usize) {
     }
 }
 
+// A page more, for which the search tries every end.
+fn maps(a: AddressSpace, pages: &mut [u8], pool: &[u64], n: usize) {
+    let mut i: usize = 0;
+    while i < n {
+        let vmo = Vmo {
+            id: 7,
+            len: 0x40_0000,
+        };
+        a.map(
+            pages,
+            pool,
+            0x10_0000,
+            1,
+            0,
+            Offset::None,
+            vmo,
+            0,
+            0x1000,
+            MMUFlags(0x1c),
+            MMUFlags(0x24),
+            false,
+        );
+        i += 1;
+    }
+}
+
 // A page of the last mapping.
 fn looks(a: AddressSpace, pages: &[u8], n: usize) {
     let mut i: usize = 0;
@@ -76,5 +102,6 @@ pub fn main() {
     let a = full(&mut pages, &pool);
     checks(a, &pages, CALLS);
     allocs(a, &pages, CALLS);
+    maps(a, &mut pages, &pool, CALLS);
     looks(a, &pages, CALLS);
 }
