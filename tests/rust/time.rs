@@ -10,8 +10,8 @@ use kernel_hal::vm::{set_table, GenericPageTable};
 use kernel_hal::MMUFlags;
 use zircon_object::vm::{VmAddressRegion, VmObject, VmarFlags};
 
-const CALLS: u32 = 20000;
-const RUNS: u32 = 10;
+const CALLS: u32 = 200;
+const RUNS: u32 = 500;
 
 fn table() -> Box<dyn GenericPageTable> {
     Box::new(PageTableImpl::<PageTableLevel4, X86PTE>::from_current())
