@@ -66,7 +66,7 @@ before-zero m = let z : 0 - m .addr ≡ 0 = omega arith in rw z (none (m .size))
     none n = rw (le-ltb n 0 (omega arith))
 
 all-whole : (m : Mapping) (r e : ℕ) → splits m r 0 e ≡ true → ⊥
-unfolding splits isSplit
+unfolding splits isSplit before
 all-whole m r e t = ⊎-elim
     (λ (l : m .live ≡ true). ⊎-elim
     (λ (q : eqb (m .region) r ≡ true). no-truth (rw (l, q, eq-eqb (before m 0) 0 (before-zero m)) at t))

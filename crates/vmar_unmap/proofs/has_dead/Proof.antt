@@ -1,53 +1,50 @@
+-- `has_dead`: the places passed hold live regions.
+use borrow.Author.Needs.{needs}
+use Prim.Native.Nat.{ℕ, _+_, _-_, _*_, _/_, _≤_, _<_}
+use mathlib.Core.Path.{_≡_, refl, sym, _∙_}
+use native.Mathlib.Omega.{arith}
+use Rattle.scan.specs.Scan.{some}
+use Rattle.scan.proofs.Scans.{some-here, some-later, some-none}
+use Rattle.space.proofs.Facts.{region-place}
+use Rattle.vmar_unmap.specs.Unmap.{deadAt, hasDead}
 use Rattle.vmar_unmap.proofs.has_dead.Statement.{statement}
 use Rattle.vmar_unmap.proofs.has_dead.Tie as tie
-use Rattle.vmar_unmap.proofs.has_dead.Reads as reads
-use Rattle.vmar_unmap.proofs.has_dead.Lts as lts
 
 abbrev Inv-loop : tie.InvT-loop
-Inv-loop s list k₀ k = ?
+Inv-loop s list k₀ k = (k ≤ s .regcount) × (hasDead s ≡ some (deadAt s) k (s .regcount))
 
 abbrev μ-loop : tie.MeasureT-loop
-μ-loop s list k₀ k = ?
+μ-loop s list k₀ k = s .regcount - k
 
--- src/lib.rt:84:5
 loop-holds : tie.Need-loop-holds Inv-loop μ-loop
-loop-holds c = ?
+loop-holds c = (omega arith, refl)
 
--- src/lib.rt:85:20
 mul-slot : tie.Need-mul-slot Inv-loop μ-loop
-mul-slot c = ?
+mul-slot c = search needs
 
--- src/lib.rt:85:20
 array-read-slot : tie.Need-array-read-slot Inv-loop μ-loop
-array-read-slot c = ?
+array-read-slot c = let z = c .before .before .before .pre .passes .regions .room in let l = c .loop-test .taken in omega arith
 
--- src/lib.rt:86:17
 mul-g : tie.Need-mul-g Inv-loop μ-loop
-mul-g c = ?
+mul-g c = let at = region-place (c .before .before .before .pre .passes) (c .before .loop .k) (c .loop-test .taken) .0 in record { fits = omega arith }
 
--- src/lib.rt:86:17
 element-copy-out-g : tie.Need-element-copy-out-g Inv-loop μ-loop
-element-copy-out-g c = ?
+element-copy-out-g c = region-place (c .before .before .before .pre .passes) (c .before .loop .k) (c .loop-test .taken) .0
 
--- src/lib.rt:88:13
 returns : tie.Need-returns Inv-loop μ-loop
-returns c = ?
+returns c = let a = c .before .before .before .before .before .before .args in let loop = c .before .before .before .before .loop in sym (loop .inv .1 ∙ some-here (deadAt (a .t1)) (loop .k) (a .t1 .regcount) (c .before .before .before .loop-test .taken) (c .if1 .taken))
 
--- src/lib.rt:90:9
 add-k : tie.Need-add-k Inv-loop μ-loop
-add-k c = ?
+add-k c = search needs
 
--- src/lib.rt:84:5
 loop-less : tie.Need-loop-less Inv-loop μ-loop
-loop-less c = ?
+loop-less c = search needs
 
--- src/lib.rt:84:5
 loop-again : tie.Need-loop-again Inv-loop μ-loop
-loop-again c = ?
+loop-again c = let a = c .before .before .before .before .before .before .args in let loop = c .before .before .before .before .loop in let l = c .before .before .before .loop-test .taken in (omega arith, loop .inv .1 ∙ some-later (deadAt (a .t1)) (loop .k) (a .t1 .regcount) l (c .if1 .left))
 
--- src/lib.rt:78:1
 returns-2 : tie.Need-returns-2 Inv-loop μ-loop
-returns-2 c = ?
+returns-2 c = let a = c .before .before .before .args in let loop = c .before .loop in sym (loop .inv .1 ∙ some-none (deadAt (a .t1)) (loop .k) (a .t1 .regcount) (c .loop-test .left))
 
 pub has-dead-spec : {M : Type 1} → statement M
 has-dead-spec =

@@ -1,50 +1,46 @@
+-- `has_partly`: the slots passed are apart or within.
+use borrow.Author.Needs.{needs}
+use Prim.Native.Nat.{ℕ, _+_, _-_, _*_, _/_, _≤_, _<_}
+use mathlib.Core.Path.{_≡_, refl, sym, _∙_}
+use native.Mathlib.Omega.{arith}
+use Rattle.scan.specs.Scan.{some}
+use Rattle.scan.proofs.Scans.{some-here, some-later, some-none}
+use Rattle.vmar_unmap.specs.Unmap.{partlyAt}
 use Rattle.vmar_unmap.proofs.has_partly.Statement.{statement}
 use Rattle.vmar_unmap.proofs.has_partly.Tie as tie
-use Rattle.vmar_unmap.proofs.has_partly.Reads as reads
-use Rattle.vmar_unmap.proofs.has_partly.Lts as lts
-use Rattle.vmar_unmap.proofs.is_partly.Reads as is-partly-reads
 
 abbrev Inv-loop : tie.InvT-loop
-Inv-loop r begin end s i₀ i = ?
+Inv-loop r begin end s i₀ i = (i ≤ 32) × (some (partlyAt s r begin end) 0 32 ≡ some (partlyAt s r begin end) i 32)
 
 abbrev μ-loop : tie.MeasureT-loop
-μ-loop r begin end s i₀ i = ?
+μ-loop r begin end s i₀ i = 32 - i
 
--- src/lib.rt:67:5
 loop-holds : tie.Need-loop-holds Inv-loop μ-loop
-loop-holds c = ?
+loop-holds c = (omega arith, refl)
 
--- src/lib.rt:68:17
 mul-g : tie.Need-mul-g Inv-loop μ-loop
-mul-g c = ?
+mul-g c = search needs
 
--- src/lib.rt:68:17
 element-copy-out-g : tie.Need-element-copy-out-g Inv-loop μ-loop
-element-copy-out-g c = ?
+element-copy-out-g c = search needs
 
--- src/lib.rt:69:12
 is-partly-requires : tie.Need-is-partly-requires Inv-loop μ-loop
-is-partly-requires c κs = ?
+is-partly-requires c κs = c .before .before .before .pre
 
--- src/lib.rt:70:13
 returns : tie.Need-returns Inv-loop μ-loop
-returns c = ?
+returns c = let a = c .before .before .before .before .before .args in let loop = c .before .before .before .before .loop in sym (loop .inv .1 ∙ some-here (partlyAt (a .t1) (a .r) (a .begin) (a .end)) (loop .i) 32 (c .before .before .before .loop-test .taken) (sym (c .before .is-partly .ensures) ∙ c .if1 .taken))
 
--- src/lib.rt:72:9
 add-i : tie.Need-add-i Inv-loop μ-loop
-add-i c = ?
+add-i c = search needs
 
--- src/lib.rt:67:5
 loop-less : tie.Need-loop-less Inv-loop μ-loop
-loop-less c = ?
+loop-less c = search needs
 
--- src/lib.rt:67:5
 loop-again : tie.Need-loop-again Inv-loop μ-loop
-loop-again c = ?
+loop-again c = let a = c .before .before .before .before .before .args in let loop = c .before .before .before .before .loop in let l = c .before .before .before .loop-test .taken in (omega arith, loop .inv .1 ∙ some-later (partlyAt (a .t1) (a .r) (a .begin) (a .end)) (loop .i) 32 l (sym (c .before .is-partly .ensures) ∙ c .if1 .left))
 
--- src/lib.rt:62:1
 returns-2 : tie.Need-returns-2 Inv-loop μ-loop
-returns-2 c = ?
+returns-2 c = let a = c .before .before .args in let loop = c .before .loop in sym (loop .inv .1 ∙ some-none (partlyAt (a .t1) (a .r) (a .begin) (a .end)) (loop .i) 32 (c .loop-test .left))
 
 pub has-partly-spec : {M : Type 1} → statement M
 has-partly-spec =

@@ -1,34 +1,29 @@
+-- `is_partly`: met, and not within.
+use borrow.Author.Needs.{needs}
+use mathlib.Core.Path.{sym, _∙_}
+use borrow.Author.Tests.{not-true, not-false}
+use Rattle.vmar_unmap.proofs.Calls.{apart-child, meets-child}
 use borrow.Author.Needs.{needs}
 use Rattle.vmar_unmap.proofs.is_partly.Statement.{statement}
 use Rattle.vmar_unmap.proofs.is_partly.Tie as tie
-use Rattle.vmar_unmap.proofs.is_partly.Reads as reads
-use Rattle.vmar_unmap.proofs.is_partly.Lts as lts
-use Rattle.space.proofs.within.Reads as within-reads
-use Rattle.vmar_offset.proofs.child_meets.Reads as child-meets-reads
 
--- src/lib.rt:56:47
 sub-child-meets : tie.Need-sub-child-meets
 sub-child-meets c = search needs
 
--- src/lib.rt:56:9
 child-meets-requires : tie.Need-child-meets-requires
 child-meets-requires c κs = search needs
 
--- src/lib.rt:57:9
 returns : tie.Need-returns
-returns c = ?
+returns c = let a = c .before .before .args in apart-child (a .g) (a .r) (a .begin) (a .end) (sym (c .before .child-meets .ensures) ∙ not-true (c .before .child-meets .result) (c .if1 .taken))
 
--- src/lib.rt:59:43
 sub-within : tie.Need-sub-within
 sub-within c = search needs
 
--- src/lib.rt:59:6
 within-requires : tie.Need-within-requires
 within-requires c κs = search needs
 
--- src/lib.rt:52:1
 returns-2 : tie.Need-returns-2
-returns-2 c = ?
+returns-2 c = let a = c .before .before .before .args in meets-child (a .g) (a .r) (a .begin) (a .end) (c .within .result) (sym (c .before .before .child-meets .ensures) ∙ not-false (c .before .before .child-meets .result) (c .before .if1 .left)) (c .within .ensures)
 
 pub is-partly-spec : {M : Type 1} → statement M
 is-partly-spec =

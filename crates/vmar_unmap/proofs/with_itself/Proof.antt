@@ -1,18 +1,18 @@
+-- `with_itself`: one mark more, or none.
+use borrow.Author.Needs.{needs}
+use mathlib.Core.Path.{refl, _∙_}
+use lib.ListN.{length-set}
+use Rattle.scan.proofs.Picks.{on, off}
 use borrow.Author.Needs.{needs}
 use Rattle.vmar_unmap.proofs.with_itself.Statement.{statement}
 use Rattle.vmar_unmap.proofs.with_itself.Tie as tie
-use Rattle.vmar_unmap.proofs.with_itself.Reads as reads
-use Rattle.vmar_unmap.proofs.with_itself.Lts as lts
 
--- src/lib.rt:241:9
 array-write-all : tie.Need-array-write-all
 array-write-all c = search needs
 
--- src/lib.rt:242:9
 returns : tie.Need-returns
-returns c = ?
+returns c = (on _ _ _ _ (c .if1 .taken) refl, length-set _ _ _ ∙ c .before .pre .1)
 
--- src/lib.rt:234:1
 returns-2 : tie.Need-returns-2
 returns-2 c = search needs
 
