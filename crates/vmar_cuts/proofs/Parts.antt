@@ -99,11 +99,11 @@ module _ (m : Mapping) (r b e : ℕ) (F : Fits (whole m)) (R : PageRange b e) (k
 
 -- the code's choice is the definition's
 module _ (m : Mapping) (r b e : ℕ) where
-  part-of : mappingMeets m r b (e - b) ≡ true → partOf m r b e ≡ part m b e ∷ []
+  pub part-of : mappingMeets m r b (e - b) ≡ true → partOf m r b e ≡ part m b e ∷ []
   unfolding partOf
   part-of k = rw k
 
-  part-none : mappingMeets m r b (e - b) ≡ false → partOf m r b e ≡ []
+  pub part-none : mappingMeets m r b (e - b) ≡ false → partOf m r b e ≡ []
   unfolding partOf
   part-none k = rw k
 
