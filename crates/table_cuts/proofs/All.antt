@@ -1,12 +1,10 @@
 -- All cuts, one after another.
-use Prim.Native.Nat.{ℕ, _+_, _-_, _*_, _/_, _^_, _≤_, _<_}
+use Prim.Native.Nat.{ℕ, _+_, _*_, _/_, _≤_, _<_}
 use mathlib.Core.Path.{_≡_, refl, sym, _∙_, ap, subst}
-use mathlib.Core.Bool.{Bool, true, false}
 use mathlib.Core.List.{List, [], _∷_}
 use mathlib.Core.List as list
 use mathlib.Core.Logic.{_⊎_, inl, inr, ⊎-elim}
 use native.Mathlib.Omega.{arith}
-use lib.ListN.{length}
 use Rattle.paging.specs.Level.{Canonical, Within}
 use Rattle.paging.specs.Table.{nowhere}
 use Rattle.paging.proofs.Cases.{below?}
@@ -20,7 +18,7 @@ use Rattle.table.specs.declared.QueryResult.the-variants as query
 use Rattle.table_split.specs.Split.{Tables}
 use Rattle.table_unmap_cont.specs.Demand.{free, answered}
 use Rattle.table_cuts.specs.Cuts.{Cut, Fits, Among, cutOne, cutAll, nonEmpty}
-use Rattle.table_cuts.specs.Laws.{AllFit, Carried, none, next, AllCut, CutsHold}
+use Rattle.table_cuts.specs.Laws.{AllFit, none, next, AllCut, CutsHold}
 use Rattle.table_cuts.proofs.One.{some, cut-good, cut-long, cut-carried, cut-few, cut-outside, cut-inside}
 
 abbrev here : (c : Cut) (cs : List Cut) → Among c (c ∷ cs)

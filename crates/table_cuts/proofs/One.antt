@@ -3,11 +3,11 @@ use Prim.Native.Nat.{ℕ, zero, suc, _+_, _-_, _*_, _/_, _%_, _≤_, _<_}
 use mathlib.Core.Path.{_≡_, refl, sym, _∙_, ap, subst}
 use mathlib.Core.Bool.{Bool, true, false}
 use mathlib.Core.List.{List}
-use mathlib.Core.Logic.{_⊎_, inl, inr, ⊎-elim}
+use mathlib.Core.Logic.{_⊎_, ⊎-elim}
 use native.Mathlib.Omega.{arith}
 use lib.Dec.{eqb, leb}
 use lib.ListN.{length, length-set}
-use borrow.Author.Tests.{eq-eqb, ne-eqb}
+use borrow.Author.Tests.{ne-eqb}
 use Rattle.paging.specs.Choice.{pick}
 use Rattle.paging.specs.Level.{Canonical}
 use Rattle.paging.proofs.Cases.{same?, below?}
@@ -19,9 +19,9 @@ use Rattle.walk.specs.declared.Walk.the-variants.{Leaf, Open}
 use Rattle.table.specs.Table.{byLeaf, queried}
 use Rattle.table.specs.declared.QueryResult.the-variants as query
 use Rattle.pool.specs.Pool.{putWord}
-use Rattle.table_split.specs.Split.{Tables, needed, splitEnds}
-use Rattle.table_split.proofs.Ends.{t₁, D₁, D₂}
-use Rattle.table_unmap_cont.specs.UnmapCont.{emptied, after, cleared, cutFrom, ContUnmapping, unmapCont}
+use Rattle.table_split.specs.Split.{Tables, needed}
+use Rattle.table_split.proofs.Ends.{D₁, D₂}
+use Rattle.table_unmap_cont.specs.UnmapCont.{emptied, after, cleared, ContUnmapping, unmapCont}
 use Rattle.table_unmap_cont.specs.Demand.{framesFor, free, answered, Demand}
 use Rattle.table_unmap_cont.specs.declared.UnmapContResult.{UnmapContResult}
 use Rattle.table_unmap_cont.specs.declared.UnmapContResult.the-variants.{Unmapped, Refused}

@@ -1,20 +1,19 @@
 -- What is cut, both ways, and what is left of the table.
-use Prim.Native.Nat.{ℕ, zero, suc, _+_, _-_, _*_, _/_, _%_, _^_, _≤_, _<_, min, max}
+use Prim.Native.Nat.{ℕ, zero, suc, _+_, _-_, _*_, _/_, _≤_, _<_, min, max}
 use mathlib.Core.Path.{_≡_, refl, sym, _∙_, ap, subst}
-use mathlib.Core.Bool.{Bool, true, false}
-use mathlib.Core.List.{List, [], _∷_, _++_}
+use mathlib.Core.Bool.{true, false}
+use mathlib.Core.List.{List, _++_}
 use mathlib.Core.Logic.{_⊎_, inl, inr, ⊎-elim}
 use native.Mathlib.Omega.{arith}
-use Rattle.paging.specs.Level.{Canonical}
-use Rattle.paging.proofs.Cases.{same?, below?}
+use Rattle.paging.proofs.Cases.{below?}
 use Rattle.scan.proofs.Scans.{tell}
 use Rattle.form.specs.Form.{Good}
 use Rattle.refusal.specs.declared.Refusal.the-variants.{NotMapped}
 use Rattle.table.specs.Table.{queried}
 use Rattle.table.specs.declared.QueryResult.the-variants as query
 use Rattle.table_split.specs.Split.{Tables}
-use Rattle.table_unmap_cont.specs.Demand.{free, answered}
-use Rattle.space.specs.Space.{regionAt, mappingAt, isRegion, isMapping, regionPlace, mappingPlace}
+use Rattle.table_unmap_cont.specs.Demand.{free}
+use Rattle.space.specs.Space.{regionAt, mappingAt, isMapping, regionPlace, mappingPlace}
 use Rattle.space.specs.Passes.{Passes}
 use Rattle.space.specs.declared.Mapping.{Mapping}
 use Rattle.space.specs.declared.Space.{Space}
@@ -22,14 +21,13 @@ use Rattle.space.proofs.Facts.{region-place, mapping-place}
 use Rattle.vmar_offset.specs.Offset.{mappingMeets}
 use Rattle.vmar_doom.specs.Doomed.{isChildIn, Doomed, child, below}
 use Rattle.table_cuts.specs.Cuts.{Cut, Fits, Among, cutAll, nonEmpty}
-use Rattle.table_cuts.specs.Laws.{AllFit, AllCut}
+use Rattle.table_cuts.specs.Laws.{AllCut}
 use Rattle.table_cuts.proofs.All.{cuts}
-use Rattle.vmar_cuts.specs.Cuts.{END, collect, whole, part, partOf, partAt, parts, childAt, children, unmapCuts, destroyCuts, PageRange}
+use Rattle.vmar_cuts.specs.Cuts.{END, whole, part, partOf, partAt, parts, childAt, children, unmapCuts, destroyCuts, PageRange}
 use Rattle.vmar_cuts.specs.Laws.{OwnPart, WholeOf, Destroyed, UnmapCuts, DestroyCuts, Lies, UnmapLeaves, DestroyLeaves, RegionCutsHold}
-use Rattle.vmar_cuts.proofs.Parts.{Meets, meets, meets-of, part-fits, mapping-fits, fits-end, part-of, part-none}
-use Rattle.vmar_cuts.proofs.Children.{everything}
+use Rattle.vmar_cuts.proofs.Parts.{meets, meets-of, part-fits, mapping-fits, fits-end, part-of, part-none}
 use Rattle.vmar_cuts.proofs.Members.{in-left, in-right, in-either, in-none, in-one, one-in, in-collect, of-collect}
-use Rattle.vmar_cuts.proofs.Below.{child-parent, with, any-child, Top, top, Reaches, reaches-all, reaches-below}
+use Rattle.vmar_cuts.proofs.Below.{child-parent, with, any-child, top, Reaches, reaches-all, reaches-below}
 
 -- of a mapping that fits, the part in [0, END) is the whole
 whole-part : (m : Mapping) → Fits (whole m) → part m 0 END ≡ whole m
@@ -210,20 +208,24 @@ module _ {s : Space} {flags : List ℕ} (p : Passes s flags) where
           let y = L .3 in
           C .inside v (whole (mappingAt s i)) (unmap r b e R .doomed i (L .0) (L .1) (omega arith) D) x y
 
-      module _ (v : ℕ) (no-own : (i : ℕ) → Lies s i v → mappingAt s i .region ≡ r → b ≤ v → v < e → ⊥) (no-doomed : (i : ℕ) → Lies s i v → Doomed s r b e (mappingAt s i .region) → ⊥) where
+      module _ (v : ℕ) (no-own : (i : ℕ) → Lies s i v → mappingAt s i .region ≡ r → b ≤ v → v < e → ⊥)
+          (no-doomed : (i : ℕ) → Lies s i v → Doomed s r b e (mappingAt s i .region) → ⊥) where
         -- a part holds only what its mapping and the range hold
         off-part : (c : Cut) → OwnPart s r b e c → (v < c .addr) ⊎ (c .addr + c .len ≤ v)
         unfolding part
-        off-part c o = subst (λ (d : Cut). (v < d .addr) ⊎ (d .addr + d .len ≤ v)) (sym (o .is)) go
+        off-part c o = subst (λ (d : Cut). (v < d .addr) ⊎ (d .addr + d .len ≤ v)) (sym (o .is)) (go (mappingAt s (o .slot)) refl)
           where
-            go : (v < max (mappingAt s (o .slot) .addr) b) ⊎ (max (mappingAt s (o .slot) .addr) b + (min (mappingAt s (o .slot) .addr + mappingAt s (o .slot) .size) e - max (mappingAt s (o .slot) .addr) b) ≤ v)
-            go = ⊎-elim
-                (λ (l : v < max (mappingAt s (o .slot) .addr) b). inl l)
-                (λ (l : max (mappingAt s (o .slot) .addr) b ≤ v). ⊎-elim
-                (λ (h : v < min (mappingAt s (o .slot) .addr + mappingAt s (o .slot) .size) e). absurd (no-own (o .slot) (o .below, o .live, omega arith, omega arith) (o .own) (omega arith) (omega arith)))
-                (λ (h : min (mappingAt s (o .slot) .addr + mappingAt s (o .slot) .size) e ≤ v). inr (omega arith))
-                (below? v (min (mappingAt s (o .slot) .addr + mappingAt s (o .slot) .size) e)))
-                (below? v (max (mappingAt s (o .slot) .addr) b))
+            go : (m : Mapping) → mappingAt s (o .slot) ≡ m → (v < max (m .addr) b) ⊎ (max (m .addr) b + (min (m .addr + m .size) e - max (m .addr) b) ≤ v)
+            go m q = ⊎-elim
+                (λ (l : v < max (m .addr) b). inl l)
+                (λ (l : max (m .addr) b ≤ v). ⊎-elim
+                (λ (h : v < min (m .addr + m .size) e).
+                let from : mappingAt s (o .slot) .addr ≤ v = omega (arith, ap (λ (x : Mapping). x .addr) q) in
+                let to : v < mappingAt s (o .slot) .addr + mappingAt s (o .slot) .size = omega (arith, ap (λ (x : Mapping). x .addr) q, ap (λ (x : Mapping). x .size) q) in
+                absurd (no-own (o .slot) (o .below, o .live, from, to) (o .own) (omega arith) (omega arith)))
+                (λ (h : min (m .addr + m .size) e ≤ v). inr (omega arith))
+                (below? v (min (m .addr + m .size) e)))
+                (below? v (max (m .addr) b))
 
         off-all : (c : Cut) → Among c (unmapCuts s r b e) → (v < c .addr) ⊎ (c .addr + c .len ≤ v)
         off-all c n = ⊎-elim (λ (o : OwnPart s r b e c). off-part c o) (λ (w : WholeOf s (Doomed s r b e) c). off-whole v (Doomed s r b e) no-doomed c w) (unmap-from r b e c n)

@@ -1,21 +1,19 @@
 -- Which cuts stand in a list that is put together.
-use Prim.Native.Nat.{ℕ, zero, suc, _+_, _-_, _≤_, _<_}
-use mathlib.Core.Path.{_≡_, refl, sym, _∙_, subst}
+use Prim.Native.Nat.{ℕ, zero, suc, _+_, _≤_, _<_}
+use mathlib.Core.Path.{_≡_, refl, subst}
 use mathlib.Core.List.{List, [], _∷_, _++_}
 use mathlib.Core.List as list
-use mathlib.Core.Logic.{_⊎_, inl, inr, ⊎-elim}
+use mathlib.Core.Logic.{_⊎_, ⊎-elim}
 use native.Mathlib.Omega.{arith}
 use Rattle.paging.proofs.Cases.{same?}
 use Rattle.table_cuts.specs.Cuts.{Cut, Among}
 use Rattle.vmar_cuts.specs.Cuts.{collect}
 
 pub in-left : (c : Cut) (xs ys : List Cut) → Among c xs → Among c (xs ++ ys)
-in-left c [] ys m = absurd (list.List·Memᴰ·not-nil m)
-in-left c (x ∷ xs) ys m = ⊎-elim (λ (e : c ≡ x). list.List·Memᴰ·head e) (λ (n : Among c xs). list.List·Memᴰ·tail (in-left c xs ys n)) (list.List·Memᴰ·cases-cons m)
+in-left c xs ys m = list.Memᴰ·append-left ys m
 
 pub in-right : (c : Cut) (xs ys : List Cut) → Among c ys → Among c (xs ++ ys)
-in-right c [] ys m = m
-in-right c (x ∷ xs) ys m = list.List·Memᴰ·tail (in-right c xs ys m)
+in-right c xs ys m = list.Memᴰ·append-right xs m
 
 pub in-either : (c : Cut) (xs ys : List Cut) → Among c (xs ++ ys) → Among c xs ⊎ Among c ys
 in-either c xs ys m = list.List·Memᴰ·append-cases xs m

@@ -1,13 +1,12 @@
 -- Mappings of a space that passes its check, and their parts, are ranges that `unmap_cont` takes.
-use Prim.Native.Nat.{ℕ, zero, suc, _+_, _-_, _/_, _%_, _^_, _≤_, _<_, min, max}
+use Prim.Native.Nat.{ℕ, zero, suc, _+_, _-_, _%_, _^_, _≤_, _<_, min, max}
 use mathlib.Core.Path.{_≡_, refl, sym, _∙_, ap, subst}
-use mathlib.Core.Bool.{Bool, true, false, not}
-use mathlib.Core.List.{List, [], _∷_, _++_}
-use mathlib.Core.Logic.{_⊎_, inl, inr, ⊎-elim}
+use mathlib.Core.Bool.{true, false}
+use mathlib.Core.List.{List, [], _∷_}
+use mathlib.Core.Logic.{inl, inr, ⊎-elim}
 use native.Mathlib.Omega.{arith}
-use lib.Dec.{eqb, leb}
-use borrow.Author.Tests.{eqb-true, eq-eqb, ne-eqb, leb-true, leb-false, le-leb, lt-leb}
-use Rattle.paging.specs.Choice.{pick}
+use lib.Dec.{eqb}
+use borrow.Author.Tests.{eqb-true, eq-eqb, ne-eqb}
 use Rattle.paging.specs.Level.{Within}
 use Rattle.paging.proofs.Cases.{same?, below?, no-truth}
 use Rattle.scan.proofs.Scans.{tell}
@@ -70,7 +69,13 @@ module _ (m : Mapping) (r b e : ℕ) (F : Fits (whole m)) (R : PageRange b e) (k
 
   part-page : part m b e .addr % 4096 ≡ 0
   unfolding part
-  part-page = let x = F .page in let y = R .begin in ⊎-elim (λ (l : m .addr < b). let z : max (m .addr) b ≡ b = omega arith in rw z y) (λ (l : b ≤ m .addr). let z : max (m .addr) b ≡ m .addr = omega arith in rw z x) (below? (m .addr) b)
+  part-page =
+      let x = F .page in
+      let y = R .begin in
+      ⊎-elim
+      (λ (l : m .addr < b). let z : max (m .addr) b ≡ b = omega arith in rw z y)
+      (λ (l : b ≤ m .addr). let z : max (m .addr) b ≡ m .addr = omega arith in rw z x)
+      (below? (m .addr) b)
 
   end-page : min (m .addr + m .size) e % 4096 ≡ 0
   end-page =

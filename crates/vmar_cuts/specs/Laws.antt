@@ -76,7 +76,8 @@ pub record UnmapLeaves (s : Space) (r b e : ℕ) (p : List ℕ) (base used : ℕ
   pub cut : (i v : ℕ) → Lies s i v → mappingAt s i .region ≡ r → b ≤ v → v < e → queried (t .pool) (base / 4096) v ≡ query.Refused NotMapped
   pub dropped : (i v : ℕ) → Lies s i v → Doomed s r b e (mappingAt s i .region) → queried (t .pool) (base / 4096) v ≡ query.Refused NotMapped
   -- every other address keeps its frame and rights
-  pub kept : (v : ℕ) → Canonical 4 v → ((i : ℕ) → Lies s i v → mappingAt s i .region ≡ r → b ≤ v → v < e → ⊥) → ((i : ℕ) → Lies s i v → Doomed s r b e (mappingAt s i .region) → ⊥)
+  pub kept : (v : ℕ) → Canonical 4 v → ((i : ℕ) → Lies s i v → mappingAt s i .region ≡ r → b ≤ v → v < e → ⊥)
+      → ((i : ℕ) → Lies s i v → Doomed s r b e (mappingAt s i .region) → ⊥)
       → answered (queried (t .pool) (base / 4096) v) ≡ answered (queried p (base / 4096) v)
 
 -- t is what destroy and clear leave

@@ -1,5 +1,5 @@
 -- `has_frames_for_unmap`: what is left of the room after all non-empty cuts.
-use Rattle.vmar_cuts.specs.Cuts.{END, parts, children}
+use Rattle.vmar_cuts.specs.Cuts.{parts, children}
 use Rattle.vmar_cuts.proofs.Collects.{both-room}
 use borrow.Author.Needs.{needs}
 use Rattle.vmar_cuts.proofs.has_frames_for_unmap.Statement.{statement}

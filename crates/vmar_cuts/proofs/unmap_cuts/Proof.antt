@@ -1,5 +1,5 @@
 -- `unmap_cuts`: the region's own mappings first, then what is below.
-use Rattle.vmar_cuts.specs.Cuts.{END, parts, children}
+use Rattle.vmar_cuts.specs.Cuts.{parts, children}
 use Rattle.vmar_cuts.proofs.Collects.{both-cut}
 use borrow.Author.Needs.{needs}
 use Rattle.vmar_cuts.proofs.unmap_cuts.Statement.{statement}
