@@ -3,4 +3,7 @@ pub mod Parts
 pub mod Children
 pub mod Members
 pub mod Below
+pub mod Apart
+pub mod Whose
+pub mod Once
 pub mod Laws

@@ -27,6 +27,12 @@ in-one c d m = list.List·Memᴰ·eq-of-singleton m
 pub one-in : (c : Cut) → Among c (c ∷ [])
 one-in c = list.List·Memᴰ·head refl
 
+pub first : (c : Cut) (cs : List Cut) → Among c (c ∷ cs)
+first c cs = list.List·Memᴰ·head refl
+
+pub later : (c d : Cut) (cs : List Cut) → Among c cs → Among c (d ∷ cs)
+later c d cs m = list.List·Memᴰ·tail m
+
 module _ (c : Cut) (f : ℕ → List Cut) where
   pub in-collect : (n k j : ℕ) → k ≤ j → j < k + n → Among c (f j) → Among c (collect f k n)
   unfolding collect

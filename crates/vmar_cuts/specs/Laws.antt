@@ -5,7 +5,7 @@
 use Prim.Native.Nat.{ℕ, _+_, _-_, _*_, _/_, _≤_, _<_}
 use mathlib.Core.Path.{_≡_}
 use mathlib.Core.Bool.{true}
-use mathlib.Core.List.{List}
+use mathlib.Core.List.{List, [], _∷_}
 use mathlib.Core.Logic.{_⊎_}
 use Rattle.paging.specs.Level.{Canonical}
 use Rattle.form.specs.Form.{Good}
@@ -40,6 +40,15 @@ pub record WholeOf (s : Space) (Of : ℕ → Type 0) (c : Cut) : Type 0 where
   pub of : Of (mappingAt s slot .region)
   pub is : c ≡ whole (mappingAt s slot)
 
+-- [a, a + n) and [b, b + m) share no address
+abbrev pub Off : ℕ → ℕ → ℕ → ℕ → Type 0
+Off a n b m = (a + n ≤ b) ⊎ (b + m ≤ a)
+
+-- no cut shares an address with a later one: each mapping is cut, and counted, once
+pub data Distinct : List Cut → Type 0 where
+  none : Distinct []
+  next : {c : Cut} {cs : List Cut} → ((d : Cut) → Among d cs → Off (c .addr) (c .len) (d .addr) (d .len)) → Distinct cs → Distinct (c ∷ cs)
+
 -- the regions that go with r, and r itself
 abbrev pub Destroyed : Space → ℕ → ℕ → Type 0
 Destroyed s r i = (i ≡ r) ⊎ Doomed s r 0 END i
@@ -54,6 +63,8 @@ pub record UnmapCuts (s : Space) (r b e : ℕ) : Type 0 where
   pub own : (i : ℕ) → i < 64 → isMapping s i ≡ true → mappingMeets (mappingAt s i) r b (e - b) ≡ true → Among (part (mappingAt s i) b e) (unmapCuts s r b e)
   pub doomed : (i : ℕ) → i < 64 → isMapping s i ≡ true → 0 < mappingAt s i .size → Doomed s r b e (mappingAt s i .region)
       → Among (whole (mappingAt s i)) (unmapCuts s r b e)
+  -- each once
+  pub once : Distinct (unmapCuts s r b e)
 
 -- the cuts of destroy and clear
 pub record DestroyCuts (s : Space) (r : ℕ) : Type 0 where
@@ -62,6 +73,7 @@ pub record DestroyCuts (s : Space) (r : ℕ) : Type 0 where
   pub from : (c : Cut) → Among c (destroyCuts s r) → WholeOf s (Destroyed s r) c
   -- and all such mappings are dropped; an empty one need not be
   pub to : (i : ℕ) → i < 64 → isMapping s i ≡ true → 0 < mappingAt s i .size → Destroyed s r (mappingAt s i .region) → Among (whole (mappingAt s i)) (destroyCuts s r)
+  pub once : Distinct (destroyCuts s r)
   -- every child goes, wherever it lies
   pub all : (i : ℕ) → i < 32 → isRegion s i ≡ true → regionAt s i .parent ≡ r → Doomed s r 0 END i
 
