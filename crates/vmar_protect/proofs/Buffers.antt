@@ -8,7 +8,12 @@ use native.Mathlib.Numerals.{add-one}
 use lib.ListN.{length, set, length-set}
 use Rattle.scan.proofs.Scans.{tell}
 use Rattle.form.specs.Form.{Good}
-use Rattle.table.specs.Table.{Updating, updated}
+use Rattle.pool.specs.Pool.{word}
+use Rattle.walk.specs.Walk.{found}
+use Rattle.walk.specs.declared.Walk.{Walk}
+use Rattle.walk.specs.declared.Walk.the-variants.{Leaf, Open}
+use Rattle.table.specs.Table.{misplaced, newWord, Updating, updated}
+use Rattle.table.proofs.Laws.{refused-address, rewritten}
 use Rattle.table.specs.declared.NewAddr.{NewAddr}
 use Rattle.table.specs.declared.NewFlags.{NewFlags}
 use Rattle.table.specs.declared.NewAddr.the-variants as addr
@@ -30,23 +35,38 @@ update-good p base used v n f G = by (updated p (base / 4096) v n f .result) ref
     by (update.Updated z) e = effects p base used v G .updates n f z e .2 .good
     by (update.Refused why) e = subst (λ (x : List ℕ). Good x base used) (sym (effects p base used v G .update-refused n f why e)) G
 
+pub update-length : (p : List ℕ) (b v : ℕ) (n : NewAddr) (f : NewFlags) → length (updated p b v n f .pool) ≡ length p
+update-length p b v n f = go (found p b v) refl
+  where
+    go : (w : Walk) → found p b v ≡ w → length (updated p b v n f .pool) ≡ length p
+    go (Open o) q = rw q
+    go (Leaf e) q = tested (misplaced n (e .size)) refl
+      where
+        tested : (t : Bool) → misplaced n (e .size) ≡ t → length (updated p b v n f .pool) ≡ length p
+        tested true m = ap (λ (u : Updating). length (u .pool)) (refused-address p b v e q n f m)
+        tested false m =
+            ap (λ (u : Updating). length (u .pool)) (rewritten p b v e q n f m)
+            ∙ length-set p (e .frame * 512 + e .place) (newWord (word p (e .frame) (e .place)) (e .size) n f)
+
 module _ (base used : ℕ) where
-  -- 32,768 page flags and a good pool
+  -- both lengths are as before, and a good pool stays good
   pub record Kept (t u : Lent) : Type 0 where
     pub flags : length (u .flags) ≡ length (t .flags)
+    pub pool : length (u .pool) ≡ length (t .pool)
     pub good : Good (t .pool) base used → Good (u .pool) base used
 
   none : (t : Lent) → Kept t t
-  none t = record { flags = refl; good = λ g. g }
+  none t = record { flags = refl; pool = refl; good = λ g. g }
 
   then : {t u v : Lent} → Kept t u → Kept u v → Kept t v
-  then a b = record { flags = b .flags ∙ a .flags; good = λ g. b .good (a .good g) }
+  then a b = record { flags = b .flags ∙ a .flags; pool = b .pool ∙ a .pool; good = λ g. b .good (a .good g) }
 
   pub page-kept : (t : Lent) (m : Mapping) (j access i : ℕ) → Kept t (pageDone t (base / 4096) m j access i)
   unfolding pageDone
   page-kept t m j access i = 
       record {
         flags = length-set (t .flags) (j * 512 + i) (withRights (pageAt (t .flags) j i) access);
+        pool = update-length (t .pool) (base / 4096) (m .addr + i * 4096) addr.Keep (flags.To (record { 0 = withRights (pageAt (t .flags) j i) access }));
         good = update-good (t .pool) base used (m .addr + i * 4096) addr.Keep (flags.To (record { 0 = withRights (pageAt (t .flags) j i) access }));
       }
 
@@ -75,6 +95,10 @@ unfolding pageDone
 page-is f p q b m j access i new x e u =
     ap (λ (w : Updating). lent (set f (j * 512 + i) new) (w .pool)) u
     ∙ ap (λ (n : ℕ). lent (set f (j * 512 + i) n) (updated p b (m .addr + i * 4096) addr.Keep (flags.To (record { 0 = n })) .pool)) e
+
+-- from a step's equation: what it keeps, and one more page or mapping
+pub kept-by : (base used : ℕ) (t u v : Lent) → u ≡ v → Kept base used t v → Kept base used t u
+kept-by base used t u v e k = subst (Kept base used t) (sym e) k
 
 -- one more page, one more mapping
 pub pages-more : (t : Lent) (b : ℕ) (m : Mapping) (j access first n : ℕ)

@@ -7,7 +7,7 @@ use denote.Ref.{now}
 use lib.ListN.{length}
 use Rattle.form.specs.Form.{Good}
 use Rattle.vmar_protect.specs.Protect.{Lent, lent, pageDone, pagesDone}
-use Rattle.vmar_protect.proofs.Buffers.{page-kept, pages-none, pages-more}
+use Rattle.vmar_protect.proofs.Buffers.{kept-by, page-kept, pages-none, pages-more}
 use Rattle.vmar_protect.proofs.protect_mapping.Statement.{statement}
 use Rattle.vmar_protect.proofs.protect_mapping.Tie as tie
 
@@ -44,7 +44,21 @@ loop-less : tie.Need-loop-less Inv-loop μ-loop
 loop-less c = search needs
 
 loop-again : tie.Need-loop-again Inv-loop μ-loop
-loop-again c = ?
+loop-again c =
+    let a = c .before .before .before .before .before .before .before .before .before .before .before .args in
+    let loop = c .before .before .before .before .before .before .before .before .loop in
+    let page = c .before .before .before .before .protect-page in
+    let t = lent (loop .pages) (loop .pool) in
+    let u = lent (page .last .0) (page .last .1 .0) in
+    let k = kept-by (a .base) (a .used) t u _ (page .ensures) (page-kept (a .base) (a .used) t (a .m) (a .slot) (a .flags .0) (a .first + loop .n)) in (
+      omega (arith, c .before .before .before .before .before .before .before .loop-test .taken),
+      k .flags ∙ loop .inv .1,
+      k .pool ∙ loop .inv .2,
+      k .good (loop .inv .3),
+      page .ensures
+          ∙ ap (λ (x : Lent). pageDone x (a .base / 4096) (a .m) (a .slot) (a .flags .0) (a .first + loop .n)) (loop .inv .4)
+          ∙ pages-more (lent (now (a .pages)) (now (a .pool))) (a .base / 4096) (a .m) (a .slot) (a .flags .0) (a .first) (loop .n),
+    )
 
 same-length : tie.Need-same-length Inv-loop μ-loop
 same-length c = c .before .loop .inv .1
