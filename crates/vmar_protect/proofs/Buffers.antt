@@ -63,7 +63,7 @@ module _ (base used : ℕ) where
 
   pub page-kept : (t : Lent) (m : Mapping) (j access i : ℕ) → Kept t (pageDone t (base / 4096) m j access i)
   unfolding pageDone
-  page-kept t m j access i = 
+  page-kept t m j access i =
       record {
         flags = length-set (t .flags) (j * 512 + i) (withRights (pageAt (t .flags) j i) access);
         pool = update-length (t .pool) (base / 4096) (m .addr + i * 4096) addr.Keep (flags.To (record { 0 = withRights (pageAt (t .flags) j i) access }));

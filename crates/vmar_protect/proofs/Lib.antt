@@ -1,3 +1,4 @@
 pub mod Parts
 pub mod Rights
 pub mod Buffers
+pub mod Calls

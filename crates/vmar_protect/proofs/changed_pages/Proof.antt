@@ -12,7 +12,7 @@ part-to-requires : tie.Need-part-to-requires
 part-to-requires c κs = search needs
 
 sub-len : tie.Need-sub-len
-sub-len c = 
+sub-len c =
     let a = c .before .before .args in
     let pre = c .before .before .pre in
     omega (arith, c .before .part-from .ensures, c .part-to .ensures, part-runs (a .m) (a .begin) (a .end) (pre .1) (pre .2) (pre .3))

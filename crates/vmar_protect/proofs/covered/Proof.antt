@@ -32,7 +32,7 @@ element-copy-out-m : tie.Need-element-copy-out-m Inv-loop μ-loop
 element-copy-out-m c = mapping-place (c .before .before .before .pre .0 .passes) (c .before .loop .k) (c .loop-test .taken) .0
 
 part-in-requires : tie.Need-part-in-requires Inv-loop μ-loop
-part-in-requires c κs = 
+part-in-requires c κs =
     let pre = c .before .before .before .before .pre in
     let at = mapping-place (pre .0 .passes) (c .before .before .loop .k) (c .before .loop-test .taken) in
     (pre .0 .passes .paged _ (at .0) (at .1) .end, pre .1)
@@ -56,7 +56,7 @@ loop-less : tie.Need-loop-less Inv-loop μ-loop
 loop-less c = search needs
 
 loop-again : tie.Need-loop-again Inv-loop μ-loop
-loop-again c = 
+loop-again c =
     let loop = c .before .before .before .loop in
     let a = c .before .before .before .before .before .args in (
       omega (arith, c .before .before .loop-test .taken),
@@ -66,7 +66,7 @@ loop-again c =
     )
 
 returns : tie.Need-returns Inv-loop μ-loop
-returns c = 
+returns c =
     let a = c .before .before .before .args in
     let e : c .before .loop .k ≡ a .t1 .mapcount = omega (arith, c .before .loop .inv .0, c .loop-test .left) in
     c .before .loop .inv .3 ∙ ap (total (a .t1) (a .r) (a .begin) (a .end)) e

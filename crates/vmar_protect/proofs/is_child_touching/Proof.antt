@@ -32,13 +32,13 @@ element-copy-out-child : tie.Need-element-copy-out-child Inv-loop μ-loop
 element-copy-out-child c = region-place (c .before .before .before .pre .passes) (c .before .loop .k) (c .loop-test .taken) .0
 
 is-touching-requires : tie.Need-is-touching-requires Inv-loop μ-loop
-is-touching-requires c κs = 
+is-touching-requires c κs =
     let pre = c .before .before .before .before .pre in
     let at = region-place (pre .passes) (c .before .before .loop .k) (c .before .loop-test .taken) in
     region-end (pre .passes) _ (at .0) (at .1)
 
 returns : tie.Need-returns Inv-loop μ-loop
-returns c = let a = c .before .before .before .before .before .before .args in 
+returns c = let a = c .before .before .before .before .before .before .args in
     let loop = c .before .before .before .before .loop in
     sym (loop .inv .2 ∙ some-here (touchesChild (a .t1) (a .r) (a .begin) (a .end)) (loop .k) (a .t1 .regcount) (c .before .before .before .loop-test .taken) (sym (c .before .is-touching .ensures) ∙ c .if1 .taken))
 
@@ -49,12 +49,12 @@ loop-less : tie.Need-loop-less Inv-loop μ-loop
 loop-less c = search needs
 
 loop-again : tie.Need-loop-again Inv-loop μ-loop
-loop-again c = let a = c .before .before .before .before .before .before .args in 
+loop-again c = let a = c .before .before .before .before .before .before .args in
     let loop = c .before .before .before .before .loop in
     (omega arith, loop .inv .1, loop .inv .2 ∙ some-later (touchesChild (a .t1) (a .r) (a .begin) (a .end)) (loop .k) (a .t1 .regcount) (c .before .before .before .loop-test .taken) (sym (c .before .is-touching .ensures) ∙ c .if1 .left))
 
 returns-2 : tie.Need-returns-2 Inv-loop μ-loop
-returns-2 c = 
+returns-2 c =
     let a = c .before .before .before .args in
     let loop = c .before .loop in
     sym (loop .inv .2 ∙ some-none (touchesChild (a .t1) (a .r) (a .begin) (a .end)) (loop .k) (a .t1 .regcount) (c .loop-test .left))

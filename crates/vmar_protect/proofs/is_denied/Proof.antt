@@ -32,13 +32,13 @@ element-copy-out-m : tie.Need-element-copy-out-m Inv-loop μ-loop
 element-copy-out-m c = mapping-place (c .before .before .before .pre .passes) (c .before .loop .k) (c .loop-test .taken) .0
 
 is-denying-requires : tie.Need-is-denying-requires Inv-loop μ-loop
-is-denying-requires c κs = 
+is-denying-requires c κs =
     let pre = c .before .before .before .before .pre in
     let at = mapping-place (pre .passes) (c .before .before .loop .k) (c .before .loop-test .taken) in
     pre .passes .paged _ (at .0) (at .1) .end
 
 returns : tie.Need-returns Inv-loop μ-loop
-returns c = let a = c .before .before .before .before .before .before .args in 
+returns c = let a = c .before .before .before .before .before .before .args in
     let loop = c .before .before .before .before .loop in
     sym (loop .inv .2 ∙ some-here (deniesAt (a .t1) (a .r) (a .begin) (a .end) (a .flags .0)) (loop .k) (a .t1 .mapcount) (c .before .before .before .loop-test .taken) (sym (c .before .is-denying .ensures) ∙ c .if1 .taken))
 
@@ -49,12 +49,12 @@ loop-less : tie.Need-loop-less Inv-loop μ-loop
 loop-less c = search needs
 
 loop-again : tie.Need-loop-again Inv-loop μ-loop
-loop-again c = let a = c .before .before .before .before .before .before .args in 
+loop-again c = let a = c .before .before .before .before .before .before .args in
     let loop = c .before .before .before .before .loop in
     (omega arith, loop .inv .1, loop .inv .2 ∙ some-later (deniesAt (a .t1) (a .r) (a .begin) (a .end) (a .flags .0)) (loop .k) (a .t1 .mapcount) (c .before .before .before .loop-test .taken) (sym (c .before .is-denying .ensures) ∙ c .if1 .left))
 
 returns-2 : tie.Need-returns-2 Inv-loop μ-loop
-returns-2 c = 
+returns-2 c =
     let a = c .before .before .before .args in
     let loop = c .before .loop in
     sym (loop .inv .2 ∙ some-none (deniesAt (a .t1) (a .r) (a .begin) (a .end) (a .flags .0)) (loop .k) (a .t1 .mapcount) (c .loop-test .left))

@@ -17,7 +17,7 @@ contains-requires : tie.Need-contains-requires
 contains-requires c κs = search needs
 
 returns-2 : tie.Need-returns-2
-returns-2 c = 
+returns-2 c =
     let a = c .before .before .before .before .before .args in
     ap not (c .contains .ensures) ∙ denies-there (a .m) (a .r) (a .begin) (a .end) (a .flags .0) (sym (c .before .before .before .before .is-touching .ensures) ∙ not-false (c .before .before .before .before .is-touching .result) (c .before .before .before .if1 .left))
 

@@ -22,7 +22,7 @@ part-from-requires : tie.Need-part-from-requires
 part-from-requires c κs = search needs
 
 sub-result : tie.Need-sub-result
-sub-result c = 
+sub-result c =
     let a = c .before .before .before .before .args in
     let pre = c .before .before .before .before .pre in
     let is-touching = c .before .before .before .is-touching in
@@ -30,7 +30,7 @@ sub-result c =
     omega (arith, c .part-from .ensures, c .before .part-to .ensures, part-runs (a .m) (a .begin) (a .end) (pre .1) (t .1) (t .2))
 
 returns-2 : tie.Need-returns-2
-returns-2 c = 
+returns-2 c =
     let a = c .before .before .before .before .args in
     let is-touching = c .before .before .before .is-touching in
     ap (λ (x : ℕ). x - c .part-from .result) (c .before .part-to .ensures)

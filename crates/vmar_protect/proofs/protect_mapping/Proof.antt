@@ -24,7 +24,7 @@ add-protect-page : tie.Need-add-protect-page Inv-loop μ-loop
 add-protect-page c = search needs
 
 protect-page-requires : tie.Need-protect-page-requires Inv-loop μ-loop
-protect-page-requires c κs = 
+protect-page-requires c κs =
     let a = c .before .before .before .before .before .before .args in
     let pre = c .before .before .before .before .before .before .pre in
     let loop = c .before .before .before .loop in
@@ -67,7 +67,7 @@ same-length-2 : tie.Need-same-length-2 Inv-loop μ-loop
 same-length-2 c = c .before .loop .inv .2
 
 returns : tie.Need-returns Inv-loop μ-loop
-returns c = 
+returns c =
     let a = c .before .before .before .before .args in
     let e : c .before .loop .n ≡ a .count = omega (arith, c .before .loop .inv .0, c .loop-test .left) in
     c .before .loop .inv .4 ∙ ap (pagesDone (lent (now (a .pages)) (now (a .pool))) (a .base / 4096) (a .m) (a .slot) (a .flags .0) (a .first)) e

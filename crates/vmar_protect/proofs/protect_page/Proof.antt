@@ -40,7 +40,7 @@ same-length-2 : tie.Need-same-length-2
 same-length-2 c = search needs
 
 returns : tie.Need-returns
-returns c = 
+returns c =
     let a = c .before .before .before .before .before .before .before .before .before .args in
     page-is (now (a .pages)) (now (a .pool)) _ (a .base / 4096) (a .m) (a .slot) (a .flags .0) (a .page) (c .before .before .before .before .before .with-rights .result) _
     (c .before .before .before .before .before .with-rights .ensures) (c .before .before .update .ensures)
