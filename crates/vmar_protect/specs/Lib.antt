@@ -1,1 +1,2 @@
 pub mod Protect
+pub mod Laws

@@ -1,0 +1,99 @@
+-- What `protect` means on a space that passes its check and a good pool; proofs/Laws has the proof. Document 01, 'Regions': "`protect` compares with closed ends: a
+-- child that merely touches gives 1, a touching mapping must grant the rights too"; 'Entries and translation': "`update` acts on the whole leaf over the address", so that
+-- rights may change outside the range too, and "On an unused entry the port answers 6", so that no address gains a frame.
+use Prim.Native.Nat.{ℕ, _+_, _*_, _/_, _≤_, _<_}
+use mathlib.Core.Path.{_≡_}
+use mathlib.Core.Bool.{true, false}
+use mathlib.Core.List.{List}
+use Rattle.paging.specs.Level.{span, Canonical}
+use Rattle.paging.specs.Table.{view}
+use Rattle.common.specs.Flags.{READ, WRITE, EXECUTE, USER, HUGE_PAGE, has, knownPage, grants, rights}
+use Rattle.common.specs.declared.defs.MMUFlags.{MMUFlags}
+use Rattle.common.specs.declared.vm.PageSize.{PageSize}
+use Rattle.form.specs.Form.{Good}
+use Rattle.refusal.specs.declared.Refusal.{Refusal}
+use Rattle.space.specs.Range.{contains}
+use Rattle.space.specs.Space.{mappingAt, isRegion, isMapping}
+use Rattle.space.specs.Passes.{pageAt, Passes}
+use Rattle.space.specs.declared.Space.{Space}
+use Rattle.table.specs.Table.{queried}
+use Rattle.table.specs.declared.QueryResult.{QueryResult}
+use Rattle.table.specs.declared.QueryResult.the-variants as query
+use Rattle.table_laws.specs.Effects.{showsIn, translatesIn}
+use Rattle.vmar_offset.specs.Offset.{slotOf}
+use Rattle.vmar_protect.specs.Protect.{touching, withRights, lent, ProtectDone, protected}
+use Rattle.vmar_protect.specs.declared.ProtectResult.the-variants as result
+
+-- known page flags with the rights of `access`: exactly those, and their own USER and HUGE_PAGE
+pub record Righted (old access : ℕ) : Type 0 where
+  pub known : knownPage (withRights old access) ≡ true
+  pub read : has READ (withRights old access) ≡ has READ access
+  pub write : has WRITE (withRights old access) ≡ has WRITE access
+  pub execute : has EXECUTE (withRights old access) ≡ has EXECUTE access
+  pub user : has USER (withRights old access) ≡ has USER old
+  pub huge : has HUGE_PAGE (withRights old access) ≡ has HUGE_PAGE old
+
+-- page j of the mapping in slot i begins at this address
+abbrev pub pageAddr : Space → ℕ → ℕ → ℕ
+pageAddr s i j = mappingAt s i .addr + j * 4096
+
+-- page j of the mapping in slot i is one of region r, and lies in [begin, end)
+pub record InRange (s : Space) (r begin end i j : ℕ) : Type 0 where
+  pub slot : i < 64
+  pub live : isMapping s i ≡ true
+  pub mine : mappingAt s i .region ≡ r
+  pub page : j < mappingAt s i .size / 4096
+  pub from : begin ≤ pageAddr s i j
+  pub to : pageAddr s i j < end
+
+-- a mapping of region r holds x and grants the rights
+pub record Covered (s : Space) (r access x : ℕ) : Type 0 where
+  pub mapping : ℕ
+  pub slot : mapping < 64
+  pub live : isMapping s mapping ≡ true
+  pub mine : mappingAt s mapping .region ≡ r
+  pub holds : contains (mappingAt s mapping .addr) (mappingAt s mapping .size) x ≡ true
+  pub granted : grants (mappingAt s mapping .permissions) (rights access) ≡ true
+
+-- two answers of `query` tell of one frame, or both of none; rights may differ
+pub data SameFrame : QueryResult → QueryResult → Type 0 where
+  none : (why : Refusal) → SameFrame (query.Refused why) (query.Refused why)
+  frame : (a : ℕ) (f g : MMUFlags) (y z : PageSize) → SameFrame (query.Page a f y) (query.Page a g z)
+
+-- the entry that ends the walk of v is over x too
+abbrev pub Over : List ℕ → ℕ → ℕ → ℕ → Type 0
+Over p base v x = (l : ℕ) × (w : ℕ) × (showsIn p base v ≡ view l w) × (x / span l ≡ v / span l)
+
+abbrev pub call : Space → List ℕ → List ℕ → ℕ → ℕ → ℕ → ℕ → ℕ → ProtectDone
+call s f p base id begin len access = protected s (lent f p) (base / 4096) id begin len access
+
+pub record Protects (s : Space) (f p : List ℕ) (base used id begin len access : ℕ) : Type 0 where
+  -- a refusal changes nothing
+  pub refused : (why : Refusal) → call s f p base id begin len access .result ≡ result.Refused why
+      → (call s f p base id begin len access .flags ≡ f) × (call s f p base id begin len access .pool ≡ p)
+  -- the space still passes its check, and the pool is still good
+  pub passes : Passes s (call s f p base id begin len access .flags)
+  pub good : Good (call s f p base id begin len access .pool) base used
+  -- an accepted call is one on a live region
+  pub live : call s f p base id begin len access .result ≡ result.Protected → (slotOf s id < 32) × (isRegion s (slotOf s id) ≡ true)
+  -- it finds every address of the range in a mapping of the region that grants the rights
+  pub covered : call s f p base id begin len access .result ≡ result.Protected
+      → (x : ℕ) → begin ≤ x → x < begin + len → Covered s (slotOf s id) access x
+  -- "a touching mapping must grant the rights too"
+  pub granted : call s f p base id begin len access .result ≡ result.Protected
+      → (i : ℕ) → i < 64 → isMapping s i ≡ true → touching (mappingAt s i) (slotOf s id) begin (begin + len) ≡ true → grants (mappingAt s i .permissions) (rights access) ≡ true
+  -- each page in the range has the rights
+  pub changes : call s f p base id begin len access .result ≡ result.Protected
+      → (i j : ℕ) → InRange s (slotOf s id) begin (begin + len) i j → pageAt (call s f p base id begin len access .flags) i j ≡ withRights (pageAt f i j) access
+  -- and no other of the 32,768 page flags changes
+  pub keeps : (i j : ℕ) → i < 64 → j < 512 → (InRange s (slotOf s id) begin (begin + len) i j → ⊥) → pageAt (call s f p base id begin len access .flags) i j ≡ pageAt f i j
+  -- no address gains, loses or changes its frame
+  pub frames : (x : ℕ) → Canonical 4 x → SameFrame (queried p (base / 4096) x) (queried (call s f p base id begin len access .pool) (base / 4096) x)
+  -- an address that lies in no leaf over a page in the range keeps its rights too
+  pub elsewhere : (x : ℕ) → Canonical 4 x → ((i j : ℕ) → InRange s (slotOf s id) begin (begin + len) i j → Over p base (pageAddr s i j) x → ⊥)
+      → translatesIn (call s f p base id begin len access .pool) base x ≡ translatesIn p base x
+
+-- What is proved of every space that passes its check, every good pool and every call.
+pub record ProtectLaws : Type 0 where
+  pub protects : (s : Space) (f p : List ℕ) (base used id begin len access : ℕ) → Passes s f → Good p base used → Protects s f p base used id begin len access
+  pub righted : (old access : ℕ) → knownPage old ≡ true → Righted old access
