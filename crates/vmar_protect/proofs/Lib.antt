@@ -5,3 +5,5 @@ pub mod Calls
 pub mod Outcome
 pub mod Pages
 pub mod Covers
+pub mod Tables
+pub mod Leaves

@@ -20,7 +20,7 @@ use Rattle.vmar_protect.proofs.Parts.{touch-means, touch-of, from-is, t
 use Rattle.vmar_protect.proofs.Buffers.{pages-kept, mappings-kept}
 
 -- page k of slot i is one of the n pages from `first` on of slot j
-abbrev Among : ℕ → ℕ → ℕ → ℕ → ℕ → Type 0
+abbrev pub Among : ℕ → ℕ → ℕ → ℕ → ℕ → Type 0
 Among j first n i k = (i ≡ j) × (first ≤ k) × (k < first + n)
 
 module _ (base : ℕ) (m : Mapping) (j access first : ℕ) where
@@ -61,7 +61,7 @@ module _ (s : Space) (f : List ℕ) (g : Passes s f) (base r begin end access : 
   paged-at k l = let q = mapping-place g k l in g .paged (mappingPlace s k) (q .0) (q .1)
 
   -- the changed pages of a touching mapping lie in the range
-  in-range : (k i j : ℕ) → k < s .mapcount → touching (mappingAt s (mappingPlace s k)) r begin end ≡ true
+  pub in-range : (k i j : ℕ) → k < s .mapcount → touching (mappingAt s (mappingPlace s k)) r begin end ≡ true
       → Among (mappingPlace s k) (changed (mappingAt s (mappingPlace s k)) begin end .first) (changed (mappingAt s (mappingPlace s k)) begin end .count) i j → InRange s r begin end i j
   in-range k i j l t a =
       let q = mapping-place g k l in
@@ -99,7 +99,7 @@ module _ (s : Space) (f : List ℕ) (g : Passes s f) (base r begin end access : 
       touch-of _ _ _ _ begin end (w .mine) (omega arith) (omega arith)
 
   -- and the page is one of its changed ones
-  among : (i j : ℕ) → InRange s r begin end i j → Among i (changed (mappingAt s i) begin end .first) (changed (mappingAt s i) begin end .count) i j
+  pub among : (i j : ℕ) → InRange s r begin end i j → Among i (changed (mappingAt s i) begin end .first) (changed (mappingAt s i) begin end .count) i j
   among i j w =
       let z = g .paged i (w .slot) (w .live) in
       let z0 = z .addr in
