@@ -107,8 +107,59 @@ module _ (base used access : ℕ) (C : ℕ → Type 0) (canonical : (v : ℕ) �
       given-stays access _ _ (last .like x cx) (pages-given t G n (λ i l h. all i l (omega arith)) i x l w a (omega arith) cx e k z))
       (same? i (first + n))
 
+-- the address v is that of a page in the range
+abbrev pub Page : Space → ℕ → ℕ → ℕ → ℕ → Type 0
+Page s r begin end v = (i : ℕ) × (j : ℕ) × InRange s r begin end i j × (pageAddr s i j ≡ v)
+
 -- the mappings of a region
 module _ (s : Space) (f : List ℕ) (g : Passes s f) (base used r begin end access : ℕ) (run : begin ≤ end) (low-end : begin % 4096 ≡ 0) (high-end : end % 4096 ≡ 0) where
-  -- the pages in the range
-  pub Page : ℕ → Type 0
-  Page v = (i : ℕ) × (j : ℕ) × InRange s r begin end i j × (pageAddr s i j ≡ v)
+  canonical : (v : ℕ) → Page s r begin end v → Canonical 4 v
+  canonical v c = subst (Canonical 4) (c .3) (page-canonical g r begin end (c .0) (c .1) (c .2))
+
+  -- the changed pages of a touching mapping are such
+  its-pages : (k : ℕ) → k < s .mapcount → touching (mappingAt s (mappingPlace s k)) r begin end ≡ true → (i : ℕ) → changed (mappingAt s (mappingPlace s k)) begin end .first ≤ i
+      → i < changed (mappingAt s (mappingPlace s k)) begin end .first + changed (mappingAt s (mappingPlace s k)) begin end .count → Page s r begin end (mappingAt s (mappingPlace s k) .addr + i * 4096)
+  its-pages k l t i a b = (mappingPlace s k, i, in-range s f g base r begin end access run low-end high-end k (mappingPlace s k) i l t (refl, a, b), refl)
+
+  place-alike : (t : Lent) → Good (t .pool) base used → (k : ℕ) → k < s .mapcount → Alike access base (Page s r begin end) (t .pool) (mappingDone t (base / 4096) s r begin end access k .pool)
+  unfolding mappingDone
+  place-alike t G k l =
+      ⊎-elim
+      (λ (e : touching (mappingAt s (mappingPlace s k)) r begin end ≡ true). rw e
+      (pages-alike base used access (Page s r begin end) canonical (mappingAt s (mappingPlace s k)) (mappingPlace s k) (changed (mappingAt s (mappingPlace s k)) begin end .first) t G (changed (mappingAt s (mappingPlace s k)) begin end .count) (its-pages k l e)))
+      (λ (e : touching (mappingAt s (mappingPlace s k)) r begin end ≡ false). rw e (alike-none access base (Page s r begin end) canonical (t .pool)))
+      (tell (touching (mappingAt s (mappingPlace s k)) r begin end))
+
+  pub places-alike : (t : Lent) → Good (t .pool) base used → (n : ℕ) → n ≤ s .mapcount → Alike access base (Page s r begin end) (t .pool) (mappingsDone t (base / 4096) s r begin end access n .pool)
+  unfolding mappingsDone
+  places-alike t G zero l = alike-none access base (Page s r begin end) canonical (t .pool)
+  places-alike t G (suc n) l =
+      alike-then access base (Page s r begin end) canonical (t .pool) (mappingsDone t (base / 4096) s r begin end access n .pool) _ (places-alike t G n (omega arith))
+      (place-alike (mappingsDone t (base / 4096) s r begin end access n) (mappings-kept base used t s r begin end access n .good G) n (omega arith))
+
+  -- an address whose leaf is over a page in the range has the rights then
+  place-given : (t : Lent) → Good (t .pool) base used → (k : ℕ) → k < s .mapcount → (j x l w : ℕ) → InRange s r begin end (mappingPlace s k) j → Canonical 4 x
+      → showsIn (t .pool) base (pageAddr s (mappingPlace s k) j) ≡ view l w → x86 .kind l w ≡ leaf → x / span l ≡ pageAddr s (mappingPlace s k) j / span l
+      → Given access (showsIn (mappingDone t (base / 4096) s r begin end access k .pool) base x)
+  unfolding mappingDone
+  place-given t G k h j x l w v cx e q z =
+      let y = range-touches s f g base r begin end access run low-end high-end (mappingPlace s k) j v in
+      let a = among s f g base r begin end access run low-end high-end (mappingPlace s k) j v in
+      rw y
+      (pages-given base used access (Page s r begin end) canonical (mappingAt s (mappingPlace s k)) (mappingPlace s k) (changed (mappingAt s (mappingPlace s k)) begin end .first) t G (changed (mappingAt s (mappingPlace s k)) begin end .count) (its-pages k h y) j x l w (a .1) (a .2) cx e q z)
+
+  pub places-given : (t : Lent) → Good (t .pool) base used → (n k : ℕ) → n ≤ s .mapcount → k < n → (j x l w : ℕ) → InRange s r begin end (mappingPlace s k) j → Canonical 4 x
+      → showsIn (t .pool) base (pageAddr s (mappingPlace s k) j) ≡ view l w → x86 .kind l w ≡ leaf → x / span l ≡ pageAddr s (mappingPlace s k) j / span l
+      → Given access (showsIn (mappingsDone t (base / 4096) s r begin end access n .pool) base x)
+  unfolding mappingsDone
+  places-given t G zero k h d j x l w v cx e q z = absurd (omega arith)
+  places-given t G (suc n) k h d j x l w v cx e q z =
+      let u = mappingsDone t (base / 4096) s r begin end access n in
+      let G′ = mappings-kept base used t s r begin end access n .good G in
+      ⊎-elim
+      (λ (y : k ≡ n).
+      let was = carried access _ _ l w (places-alike t G n (omega arith) .like (pageAddr s (mappingPlace s k) j) (page-canonical g r begin end (mappingPlace s k) j v)) e q in
+      place-given u G′ n (omega arith) j x l (was .0) (subst (λ (i : ℕ). InRange s r begin end (mappingPlace s i) j) y v) cx
+      (subst (λ (i : ℕ). showsIn (u .pool) base (pageAddr s (mappingPlace s i) j) ≡ view l (was .0)) y (was .1)) (was .2) (subst (λ (i : ℕ). x / span l ≡ pageAddr s (mappingPlace s i) j / span l) y z))
+      (λ (y : k ≡ n → ⊥). given-stays access _ _ (place-alike u G′ n (omega arith) .like x cx) (places-given t G n k (omega arith) (omega arith) j x l w v cx e q z))
+      (same? k n)

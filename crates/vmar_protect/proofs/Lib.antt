@@ -7,3 +7,4 @@ pub mod Pages
 pub mod Covers
 pub mod Tables
 pub mod Leaves
+pub mod Laws

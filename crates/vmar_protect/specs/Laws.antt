@@ -6,10 +6,11 @@ use mathlib.Core.Path.{_≡_}
 use mathlib.Core.Bool.{true, false}
 use mathlib.Core.List.{List}
 use Rattle.paging.specs.Level.{span, Canonical}
-use Rattle.paging.specs.Table.{view}
+use Rattle.paging.specs.Table.{view, to}
 use Rattle.common.specs.Flags.{READ, WRITE, EXECUTE, USER, HUGE_PAGE, has, knownPage, grants, rights}
 use Rattle.common.specs.declared.defs.MMUFlags.{MMUFlags}
 use Rattle.common.specs.declared.vm.PageSize.{PageSize}
+use Rattle.x86_64.specs.Entry.{granted}
 use Rattle.form.specs.Form.{Good}
 use Rattle.refusal.specs.declared.Refusal.{Refusal}
 use Rattle.space.specs.Range.{contains}
@@ -80,7 +81,7 @@ pub record Protects (s : Space) (f p : List ℕ) (base used id begin len access 
   pub covered : call s f p base id begin len access .result ≡ result.Protected
       → (x : ℕ) → begin ≤ x → x < begin + len → Covered s (slotOf s id) access x
   -- "a touching mapping must grant the rights too"
-  pub granted : call s f p base id begin len access .result ≡ result.Protected
+  pub granting : call s f p base id begin len access .result ≡ result.Protected
       → (i : ℕ) → i < 64 → isMapping s i ≡ true → touching (mappingAt s i) (slotOf s id) begin (begin + len) ≡ true → grants (mappingAt s i .permissions) (rights access) ≡ true
   -- each page in the range has the rights
   pub changes : call s f p base id begin len access .result ≡ result.Protected
@@ -92,6 +93,10 @@ pub record Protects (s : Space) (f p : List ℕ) (base used id begin len access 
   -- an address that lies in no leaf over a page in the range keeps its rights too
   pub elsewhere : (x : ℕ) → Canonical 4 x → ((i j : ℕ) → InRange s (slotOf s id) begin (begin + len) i j → Over p base (pageAddr s i j) x → ⊥)
       → translatesIn (call s f p base id begin len access .pool) base x ≡ translatesIn p base x
+  -- and one that lies in a leaf over such a page has the rights, as an entry gives them: READ comes with any right
+  pub given : call s f p base id begin len access .result ≡ result.Protected → (i j : ℕ) → InRange s (slotOf s id) begin (begin + len) i j
+      → (x a g : ℕ) → Canonical 4 x → Over p base (pageAddr s i j) x → translatesIn p base x ≡ to a g
+      → (h : ℕ) × (translatesIn (call s f p base id begin len access .pool) base x ≡ to a h) × (rights h ≡ rights (granted access))
 
 -- What is proved of every space that passes its check, every good pool and every call.
 pub record ProtectLaws : Type 0 where
