@@ -20,7 +20,6 @@ use Rattle.table.specs.declared.NewAddr.the-variants as addr
 use Rattle.table.specs.declared.NewFlags.the-variants as flags
 use Rattle.table.specs.declared.UpdateResult.{UpdateResult}
 use Rattle.table.specs.declared.UpdateResult.the-variants as update
-use Rattle.table_laws.specs.Effects.{Effects}
 use Rattle.table_laws.proofs.Effects.{effects}
 use Rattle.space.specs.Space.{mappingAt, mappingPlace}
 use Rattle.space.specs.Passes.{pageAt}

@@ -1,25 +1,25 @@
 -- Parts that make up the whole length leave no gap: no two mappings of a region overlap, so that the parts in a range are at most its length, and a byte that none
 -- holds would make them less.
-use Prim.Native.Nat.{ℕ, zero, suc, _+_, _-_, _*_, _/_, _≤_, _<_}
-use mathlib.Core.Path.{_≡_, refl, sym, _∙_, ap, subst}
-use mathlib.Core.Bool.{Bool, true, false, not}
+use Prim.Native.Nat.{ℕ, zero, suc, _+_, _-_, _≤_, _<_}
+use mathlib.Core.Path.{_≡_, refl, sym, _∙_}
+use mathlib.Core.Bool.{Bool, true, false}
 use mathlib.Core.List.{List}
 use mathlib.Core.Logic.{_⊎_, inl, inr, ⊎-elim}
 use native.Mathlib.Omega.{arith}
 use lib.Dec.{eqb}
-use borrow.Author.Tests.{eqb-true, eqb-false, ne-eqb, eq-eqb}
+use borrow.Author.Tests.{eqb-true, eq-eqb}
 use Rattle.paging.specs.Choice.{pick}
 use Rattle.paging.proofs.Cases.{same?, below?, clash, no-truth}
 use Rattle.scan.specs.Scan.{first}
 use Rattle.scan.proofs.Scans.{tell, first-passes, before-first}
-use Rattle.space.specs.Range.{overlap, contains}
-use Rattle.space.specs.Space.{mappingAt, isMapping, mappingPlace}
+use Rattle.space.specs.Range.{contains}
+use Rattle.space.specs.Space.{mappingAt, mappingPlace}
 use Rattle.space.specs.Passes.{Passes}
 use Rattle.space.specs.declared.Mapping.{Mapping}
 use Rattle.space.specs.declared.Space.{Space}
 use Rattle.space.proofs.Facts.{mapping-place}
 use Rattle.space.proofs.Ranges as ranges
-use Rattle.vmar_protect.specs.Protect.{touches, touching, partFrom, partTo, partIn, total}
+use Rattle.vmar_protect.specs.Protect.{touching, partFrom, partTo, partIn, total}
 use Rattle.vmar_protect.proofs.Parts.{touch-means, touch-of, from-is, to-is, part-there, part-none}
 
 -- a part by where the mapping lies

@@ -1,17 +1,17 @@
 -- What `protect` means.
-use Prim.Native.Nat.{ℕ, _+_, _-_, _*_, _/_, _%_, _≤_, _<_}
+use Prim.Native.Nat.{ℕ, _+_, _/_, _%_, _≤_, _<_}
 use mathlib.Core.Path.{_≡_, refl, sym, _∙_, ap, subst}
-use mathlib.Core.Bool.{Bool, true, false, not}
+use mathlib.Core.Bool.{true, false}
 use mathlib.Core.List.{List}
-use mathlib.Core.Logic.{_⊎_, inl, inr, ⊎-elim}
+use mathlib.Core.Logic.{⊎-elim}
 use native.Mathlib.Omega.{arith}
 use lib.ListN.{length}
 use borrow.Author.Tests.{not-false}
 use Rattle.paging.specs.Level.{span, Canonical}
 use Rattle.paging.specs.Format.{Kind, nothing, leaf, table, byKind}
-use Rattle.paging.specs.Table.{View, view, Translation, to, nowhere, translated, translates}
+use Rattle.paging.specs.Table.{view, Translation, to, nowhere, translated, translates}
 use Rattle.scan.proofs.Scans.{tell, none-passes}
-use Rattle.common.specs.Flags.{knownPage, grants, rights}
+use Rattle.common.specs.Flags.{grants, rights}
 use Rattle.common.specs.declared.defs.MMUFlags.{MMUFlags}
 use Rattle.common.specs.declared.vm.PageSize.{PageSize}
 use Rattle.x86_64.specs.Entry.{granted, x86}
@@ -28,16 +28,14 @@ use Rattle.space.specs.declared.Space.{Space}
 use Rattle.space.proofs.Facts.{mapping-place}
 use Rattle.space.proofs.Ranges as ranges
 use Rattle.table.specs.Table.{queried}
-use Rattle.table.specs.declared.QueryResult.{QueryResult}
 use Rattle.table.specs.declared.QueryResult.the-variants as query
 use Rattle.table.proofs.Laws.{shown}
 use Rattle.table_laws.specs.Effects.{showsIn, translatesIn}
 use Rattle.table_laws.proofs.Effects.{effects}
 use Rattle.vmar_offset.specs.Offset.{slotOf}
 use Rattle.vmar_offset.proofs.Found.{slot-live}
-use Rattle.vmar_protect.specs.Protect.{withRights, touching, Lent, lent, mappingsDone, denies, deniesAt, ProtectDone, done, refused, protected}
+use Rattle.vmar_protect.specs.Protect.{withRights, touching, Lent, lent, mappingsDone, denies, deniesAt, ProtectDone, refused}
 use Rattle.vmar_protect.specs.Laws.{pageAddr, InRange, Covered, SameFrame, none, frame, Over, call, Protects, ProtectLaws}
-use Rattle.vmar_protect.specs.declared.ProtectResult.{ProtectResult}
 use Rattle.vmar_protect.specs.declared.ProtectResult.the-variants as result
 use Rattle.vmar_protect.proofs.Parts.{touch-of, denies-there}
 use Rattle.vmar_protect.proofs.Rights as new

@@ -1,29 +1,29 @@
 -- The pool after a protect, mapping by mapping and page by page.
 use Prim.Native.Nat.{ℕ, zero, suc, _+_, _-_, _*_, _/_, _%_, _^_, _≤_, _<_}
-use mathlib.Core.Path.{_≡_, refl, sym, _∙_, ap, subst}
-use mathlib.Core.Bool.{Bool, true, false}
+use mathlib.Core.Path.{_≡_, refl, sym, subst}
+use mathlib.Core.Bool.{true, false}
 use mathlib.Core.List.{List}
 use mathlib.Core.Logic.{_⊎_, inl, inr, ⊎-elim}
 use native.Mathlib.Omega.{arith}
 use Rattle.paging.specs.Level.{span, Canonical}
 use Rattle.paging.specs.Format.{leaf}
 use Rattle.paging.specs.Table.{view}
-use Rattle.paging.proofs.Cases.{same?, below?}
+use Rattle.paging.proofs.Cases.{same?}
 use Rattle.scan.proofs.Scans.{tell}
 use Rattle.x86_64.specs.Entry.{x86}
 use Rattle.form.specs.Form.{Good}
 use Rattle.table_laws.specs.Effects.{showsIn}
-use Rattle.space.specs.Space.{regionAt, mappingAt, isRegion, isMapping, regionPlace, mappingPlace}
+use Rattle.space.specs.Space.{regionAt, mappingAt, isRegion, regionPlace, mappingPlace}
 use Rattle.space.specs.Passes.{pageAt, Passes, RootRange}
 use Rattle.space.specs.declared.Mapping.{Mapping}
 use Rattle.space.specs.declared.Space.{Space}
-use Rattle.space.proofs.Facts.{region-place, child-in, mapping-place, mapping-in}
+use Rattle.space.proofs.Facts.{region-place, child-in, mapping-in}
 use Rattle.vmar_protect.specs.Protect.{withRights, Lent, pageDone, pagesDone, touching, changed, mappingDone, mappingsDone}
 use Rattle.vmar_protect.specs.Laws.{pageAddr, InRange}
 use Rattle.vmar_protect.proofs.Rights.{granted-now}
-use Rattle.vmar_protect.proofs.Buffers.{pages-kept, mapping-kept, mappings-kept}
-use Rattle.vmar_protect.proofs.Pages.{Among, in-range, range-touches, among}
-use Rattle.vmar_protect.proofs.Tables.{Like, Given, given-stays, carried, Step, step, Alike, alike-none, alike-step, alike-then}
+use Rattle.vmar_protect.proofs.Buffers.{pages-kept, mappings-kept}
+use Rattle.vmar_protect.proofs.Pages.{in-range, range-touches, among}
+use Rattle.vmar_protect.proofs.Tables.{Given, given-stays, carried, Step, step, Alike, alike-none, alike-step, alike-then}
 
 -- a root's range lies in one half
 abbrev Half : ℕ → ℕ → Type 0

@@ -1,10 +1,10 @@
 -- A call is refused and changes nothing, or all its tests hold and the mappings' pages are done.
 use Prim.Native.Nat.{ℕ, _+_, _%_, _^_, _<_}
 use mathlib.Core.Path.{_≡_, refl, sym, _∙_}
-use mathlib.Core.Bool.{Bool, true, false}
-use mathlib.Core.Logic.{_⊎_, inl, inr, ⊎-elim}
+use mathlib.Core.Bool.{true, false}
+use mathlib.Core.Logic.{_⊎_, inl, inr}
 use lib.Dec.{leb, ltb, eqb}
-use borrow.Author.Tests.{eqb-true, eqb-false}
+use borrow.Author.Tests.{eqb-true}
 use Rattle.paging.proofs.Cases.{same?}
 use Rattle.common.specs.Flags.{knownPage}
 use Rattle.vm.specs.Align.{multiple}

@@ -1,20 +1,20 @@
 -- The table under a protect: each leaf over a changed page is written anew with its own address and the new rights, and nothing else changes.
-use Prim.Native.Nat.{ℕ, zero, suc, _+_, _-_, _*_, _/_, _%_, _^_, _≤_, _<_}
+use Prim.Native.Nat.{ℕ, _/_}
 use mathlib.Core.Path.{_≡_, refl, sym, _∙_, ap, subst}
-use mathlib.Core.Bool.{Bool, true, false}
+use mathlib.Core.Bool.{Bool}
 use mathlib.Core.List.{List}
-use mathlib.Core.Logic.{_⊎_, inl, inr, ⊎-elim}
+use mathlib.Core.Logic.{⊎-elim}
 use native.Mathlib.Omega.{arith}
 use lib.Dec.{ltb, lit<}
 use Rattle.paging.specs.Level.{span, index, Canonical}
-use Rattle.paging.specs.Format.{Kind, leaf, nothing, byKind, LeafReads, Entry, page}
-use Rattle.paging.specs.Table.{View, view, Translation, to, nowhere, translated, translates}
-use Rattle.paging.proofs.Cases.{same?, below?}
+use Rattle.paging.specs.Format.{leaf, nothing, LeafReads, Entry, page}
+use Rattle.paging.specs.Table.{View, view}
+use Rattle.paging.proofs.Cases.{same?}
 use Rattle.paging.proofs.Formats.{IsLeaf, Is, is}
 use Rattle.paging.proofs.Walks.{leaf-bar}
-use Rattle.paging.proofs.Changes.{End, end, inside}
+use Rattle.paging.proofs.Changes.{end, inside}
 use Rattle.common.specs.Flags.{rights}
-use Rattle.common.specs.Page.{levelOf, isHuge}
+use Rattle.common.specs.Page.{isHuge}
 use Rattle.x86_64.specs.Entry.{granted, leafBy, x86}
 use Rattle.x86_64.proofs.Format.{lawful}
 use Rattle.x86_64.proofs.ReadBack.{huge-level}
@@ -31,7 +31,7 @@ use Rattle.table.specs.Table.{Updating, updated}
 use Rattle.table.specs.declared.NewAddr.the-variants as addr
 use Rattle.table.specs.declared.NewFlags.the-variants as flags
 use Rattle.table.proofs.Laws.{rewritten}
-use Rattle.table_laws.specs.Effects.{showsIn, translatesIn, Rewrites}
+use Rattle.table_laws.specs.Effects.{showsIn, Rewrites}
 use Rattle.table_laws.proofs.Effects.{shown-at}
 use Rattle.table_laws.proofs.Writes.{rewrites}
 use Rattle.vmar_protect.specs.Laws.{Over}

@@ -3,7 +3,7 @@
 -- rights may change outside the range too, and "On an unused entry the port answers 6", so that no address gains a frame.
 use Prim.Native.Nat.{ℕ, _+_, _*_, _/_, _≤_, _<_}
 use mathlib.Core.Path.{_≡_}
-use mathlib.Core.Bool.{true, false}
+use mathlib.Core.Bool.{true}
 use mathlib.Core.List.{List}
 use Rattle.paging.specs.Level.{span, Canonical}
 use Rattle.paging.specs.Table.{view, to}

@@ -3,7 +3,7 @@
 -- region's mappings in the range must make up its length (4), then each page in the range gets the rights, in its page flags and by the table's `update`, whose refusal
 -- is passed over. The records of the space do not change.
 use Prim.Native.Nat.{ℕ, zero, suc, _+_, _-_, _*_, _/_}
-use mathlib.Core.Bool.{Bool, true, false, not}
+use mathlib.Core.Bool.{Bool, false, not}
 use mathlib.Core.List.{List}
 use lib.Dec.{leb, ltb, eqb}
 use lib.ListN.{set}

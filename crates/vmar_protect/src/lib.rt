@@ -10,7 +10,7 @@ use table::NewAddr;
 use table::NewFlags;
 ghost use mathlib.Core.Path.{_≡_};
 ghost use mathlib.Core.Bool.{true};
-ghost use Prim.Native.Nat.{_+_, _-_, _*_, _/_, _%_, _^_, _≤_, _<_};
+ghost use Prim.Native.Nat.{_+_, _-_, _*_, _/_, _^_, _≤_, _<_};
 ghost use lib.ListN.{length};
 ghost use Rattle.form.specs.Form.{Good};
 ghost use Rattle.space.specs.Passes.{Passes, Paged, LiveIn};

@@ -1,7 +1,7 @@
 -- `covered`: each place adds its part, at most 2 MiB.
 use borrow.Author.Needs.{needs}
-use mathlib.Core.Path.{_≡_, refl, sym, _∙_, ap}
-use Prim.Native.Nat.{ℕ, _+_, _-_, _*_, _/_, _≤_, _<_}
+use mathlib.Core.Path.{_≡_, _∙_, ap}
+use Prim.Native.Nat.{ℕ, _+_, _-_, _*_, _≤_}
 use native.Mathlib.Omega.{arith}
 use Rattle.space.specs.Space.{mappingAt, mappingPlace}
 use Rattle.space.proofs.Facts.{mapping-place}

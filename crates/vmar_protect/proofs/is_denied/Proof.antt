@@ -1,7 +1,7 @@
 -- `is_denied`: the places passed do not deny.
 use borrow.Author.Needs.{needs}
-use mathlib.Core.Path.{_≡_, refl, sym, _∙_, ap}
-use Prim.Native.Nat.{ℕ, _+_, _-_, _*_, _/_, _≤_, _<_}
+use mathlib.Core.Path.{_≡_, refl, sym, _∙_}
+use Prim.Native.Nat.{_-_, _≤_}
 use native.Mathlib.Omega.{arith}
 use Rattle.scan.specs.Scan.{some}
 use Rattle.scan.proofs.Scans.{some-here, some-later, some-none}

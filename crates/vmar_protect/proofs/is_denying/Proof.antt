@@ -1,7 +1,7 @@
 -- `is_denying`: touching, then the permissions.
 use borrow.Author.Needs.{needs}
-use mathlib.Core.Path.{_≡_, refl, sym, _∙_, ap}
-use borrow.Author.Tests.{lt-ltb, le-ltb, eq-eqb, ne-eqb, not-true, not-false}
+use mathlib.Core.Path.{sym, _∙_, ap}
+use borrow.Author.Tests.{not-true, not-false}
 use mathlib.Core.Bool.{not}
 use Rattle.vmar_protect.proofs.Parts.{denies-there, denies-none}
 use Rattle.vmar_protect.proofs.is_denying.Statement.{statement}

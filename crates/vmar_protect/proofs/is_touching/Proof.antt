@@ -1,7 +1,7 @@
 -- `is_touching`: the owner, then both ends.
 use borrow.Author.Needs.{needs}
-use mathlib.Core.Path.{_≡_, refl, sym, _∙_, ap}
-use borrow.Author.Tests.{lt-ltb, le-ltb, eq-eqb, ne-eqb, not-true, not-false}
+use mathlib.Core.Path.{refl}
+use borrow.Author.Tests.{lt-ltb, le-ltb, eq-eqb, ne-eqb}
 use Rattle.scan.proofs.Picks.{on, off}
 use Rattle.vmar_protect.specs.Protect.{touches}
 use Rattle.vmar_protect.proofs.is_touching.Statement.{statement}

@@ -1,8 +1,8 @@
 -- `protect`: its tests in document 01's order, then the region.
 use borrow.Author.Needs.{needs}
-use mathlib.Core.Path.{_≡_, refl, sym, _∙_, ap, subst}
-use Prim.Native.Nat.{ℕ, _+_, _-_, _*_, _/_, _≤_, _<_}
-use borrow.Author.Tests.{lt-ltb, le-ltb, eq-eqb, ne-eqb, not-true, not-false}
+use mathlib.Core.Path.{sym, _∙_, subst}
+use Prim.Native.Nat.{_/_}
+use borrow.Author.Tests.{lt-ltb, le-ltb, not-true, not-false}
 use denote.Ref.{now}
 use Rattle.space.specs.Passes.{LiveIn}
 use Rattle.space.proofs.Ranges.{sum-fits}

@@ -1,8 +1,8 @@
 -- `protect_in`: 1 for a child, 4, 2, then the mappings.
 use borrow.Author.Needs.{needs}
-use mathlib.Core.Path.{_≡_, refl, sym, _∙_, ap, subst}
-use Prim.Native.Nat.{ℕ, _+_, _-_, _*_, _/_, _≤_, _<_}
-use borrow.Author.Tests.{lt-ltb, le-ltb, eq-eqb, ne-eqb, not-true, not-false}
+use mathlib.Core.Path.{sym, _∙_, ap}
+use Prim.Native.Nat.{_/_}
+use borrow.Author.Tests.{eq-eqb, ne-eqb}
 use denote.Ref.{now}
 use Rattle.vmar_protect.specs.Protect.{lent, done}
 use Rattle.vmar_protect.specs.declared.ProtectResult.the-variants.{Protected}

@@ -1,6 +1,6 @@
 -- `protect_page`: the byte, then the leaf.
 use borrow.Author.Needs.{needs}
-use Prim.Native.Nat.{ℕ, _+_, _-_, _*_, _/_, _≤_, _<_}
+use Prim.Native.Nat.{_/_}
 use denote.Ref.{now}
 use Rattle.vmar_protect.proofs.Buffers.{page-is}
 use Rattle.vmar_protect.proofs.protect_page.Statement.{statement}

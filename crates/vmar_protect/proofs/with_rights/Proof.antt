@@ -1,5 +1,4 @@
 -- `with_rights`: the bits that stay and the new ones.
-use borrow.Author.Needs.{needs}
 use native.Mathlib.Omega.{arith}
 use lib.Bits.{and-le-r}
 use Rattle.vmar_protect.proofs.Rights.{new-rights}
