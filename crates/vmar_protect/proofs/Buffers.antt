@@ -27,6 +27,7 @@ use Rattle.space.specs.declared.Mapping.{Mapping}
 use Rattle.space.specs.declared.Space.{Space}
 use Rattle.vmar_protect.specs.Protect.{withRights, Lent, lent, pageDone, pagesDone, touching, changed, mappingDone, mappingsDone}
 
+-- an `update` leaves a good pool good
 pub update-good : (p : List ℕ) (base used v : ℕ) (n : NewAddr) (f : NewFlags) → Good p base used → Good (updated p (base / 4096) v n f .pool) base used
 update-good p base used v n f G = by (updated p (base / 4096) v n f .result) refl
   where
@@ -34,6 +35,7 @@ update-good p base used v n f G = by (updated p (base / 4096) v n f .result) ref
     by (update.Updated z) e = effects p base used v G .updates n f z e .2 .good
     by (update.Refused why) e = subst (λ (x : List ℕ). Good x base used) (sym (effects p base used v G .update-refused n f why e)) G
 
+-- and as long as it was
 pub update-length : (p : List ℕ) (b v : ℕ) (n : NewAddr) (f : NewFlags) → length (updated p b v n f .pool) ≡ length p
 update-length p b v n f = go (found p b v) refl
   where
@@ -95,7 +97,7 @@ page-is f p q b m j access i new x e u =
     ap (λ (w : Updating). lent (set f (j * 512 + i) new) (w .pool)) u
     ∙ ap (λ (n : ℕ). lent (set f (j * 512 + i) n) (updated p b (m .addr + i * 4096) addr.Keep (flags.To (record { 0 = n })) .pool)) e
 
--- from a step's equation: what it keeps, and one more page or mapping
+-- what a step keeps, by its equation
 pub kept-by : (base used : ℕ) (t u v : Lent) → u ≡ v → Kept base used t v → Kept base used t u
 kept-by base used t u v e k = subst (Kept base used t) (sym e) k
 
@@ -118,6 +120,7 @@ pub mappings-none : (t : Lent) (b : ℕ) (s : Space) (r begin end access : ℕ) 
 unfolding mappingsDone
 mappings-none t b s r begin end access = refl
 
+-- the place of a mapping that touches, and of one that does not
 pub touched : (t : Lent) (b : ℕ) (s : Space) (r begin end access k : ℕ) → touching (mappingAt s (mappingPlace s k)) r begin end ≡ true
     → pagesDone t b (mappingAt s (mappingPlace s k)) (mappingPlace s k) access (changed (mappingAt s (mappingPlace s k)) begin end .first) (changed (mappingAt s (mappingPlace s k)) begin end .count)
     ≡ mappingDone t b s r begin end access k

@@ -43,6 +43,7 @@ part-of m r a b h e =
         (λ (l : a ≤ m .addr + m .size). ⊎-elim (λ (k : b < m .addr). omega arith) (λ (k : m .addr ≤ b). clash _ (touch-of _ r _ _ a b e l k) t) (below? b (m .addr)))
         (below? (m .addr + m .size) a)
 
+-- a mapping of another region adds nothing
 other-none : (m : Mapping) (r a b : ℕ) → (m .region ≡ r → ⊥) → partIn m r a b ≡ 0
 other-none m r a b d = ⊎-elim (λ (t : touching m r a b ≡ true). absurd (d (touch-means _ r _ _ a b t .0))) (λ (t : touching m r a b ≡ false). sym (part-none m r a b t)) (tell (touching m r a b))
 
@@ -160,6 +161,7 @@ module _ (s : Space) (f : List ℕ) (g : Passes s f) (r : ℕ) where
   abbrev holdsAt : ℕ → ℕ → Bool
   holdsAt x k = pick (eqb (mappingAt s (mappingPlace s k) .region) r) (contains (mappingAt s (mappingPlace s k) .addr) (mappingAt s (mappingPlace s k) .size) x) false
 
+  -- both parts of that test
   holds-both : (x k : ℕ) → holdsAt x k ≡ true → (mappingAt s (mappingPlace s k) .region ≡ r) × (contains (mappingAt s (mappingPlace s k) .addr) (mappingAt s (mappingPlace s k) .size) x ≡ true)
   holds-both x k e =
       ⊎-elim

@@ -67,6 +67,7 @@ to-leaf p base x l w a h e t = go (x86 .kind l w) refl
         let z : _≡_ {A = ℕ} 0 1 = cc in
         absurd (omega arith)
 
+-- what shows the same translates to the same
 same-to : (p q : List ℕ) (base x : ℕ) → showsIn q base x ≡ showsIn p base x → translatesIn q base x ≡ translatesIn p base x
 unfolding translates
 same-to p q base x e = ap (translated x86 x) e
@@ -76,6 +77,7 @@ pub data Told (p : List ℕ) (base x : ℕ) : Type 0 where
   found-at : (a : ℕ) (f : MMUFlags) (z : PageSize) → queried p (base / 4096) x ≡ query.Page a f z → translatesIn p base x ≡ to a (f .0) → Told p base x
   not-there : queried p (base / 4096) x ≡ query.Refused NotMapped → translatesIn p base x ≡ nowhere → Told p base x
 
+-- each query is one of the two
 told : (p : List ℕ) (base used : ℕ) → Good p base used → (x : ℕ) → Told p base x
 told p base used G x = go (found p (base / 4096) x) refl
   where
@@ -88,14 +90,17 @@ data Framed (t u : Translation) : Type 0 where
   equal : u ≡ t → Framed t u
   moved : (a f g : ℕ) → t ≡ to a f → u ≡ to a g → Framed t u
 
+-- from what is shown
 framed : (p q : List ℕ) (base access x : ℕ) → Like access (showsIn p base x) (showsIn q base x) → Framed (translatesIn p base x) (translatesIn q base x)
 framed p q base access x (same e) = equal (same-to p q base x e)
 framed p q base access x (leaves l w w′ a b c d i j) =
     moved (x86 .addr w + x % span l) (x86 .flags w) (x86 .flags w′) (leaf-to p base x l w a c) (leaf-to q base x l w′ b d ∙ ap (λ (n : ℕ). to (n + x % span l) (x86 .flags w′)) i)
 
+-- no translation is both
 clash-to : {A : Type 0} (a f : ℕ) → to a f ≡ nowhere → A
 clash-to a f e = let z : _≡_ {A = ℕ} 0 1 = cc in absurd (omega arith)
 
+-- from translations to queries
 one-frame : (p q : List ℕ) (base x : ℕ) → Told p base x → Told q base x → Framed (translatesIn p base x) (translatesIn q base x) → SameFrame (queried p (base / 4096) x) (queried q (base / 4096) x)
 one-frame p q base x (not-there a b) (not-there c d) r = rw (a, c) (none NotMapped)
 one-frame p q base x (not-there a b) (found-at n f z c d) (equal e) = clash-to n (f .0) (sym d ∙ e ∙ b)
@@ -289,6 +294,7 @@ module _ (s : Space) (f p : List ℕ) (base used id begin len access : ℕ) (g :
           given = λ r i j w x a h cx o t. let q = given i j w x a h cx o t in (q .0, ap (λ (y : List ℕ). translatesIn y base x) e2 ∙ q .1, q .2);
         }
 
+-- the laws of a call
 pub protects : (s : Space) (f p : List ℕ) (base used id begin len access : ℕ) → Passes s f → Good p base used → Protects s f p base used id begin len access
 protects s f p base used id begin len access g G = by (outcome s (lent f p) (base / 4096) id begin len access)
   where

@@ -29,6 +29,7 @@ use Rattle.vmar_protect.proofs.Tables.{Given, given-stays, carried, Ste
 abbrev Half : ℕ → ℕ → Type 0
 Half a e = (e ≤ 2 ^ 47) ⊎ ((2 ^ 64 - 2 ^ 47 ≤ a) × (e ≤ 2 ^ 64))
 
+-- and so does what lies in it
 half-in : (a e b c : ℕ) → a ≤ b → c ≤ e → Half a e → Half b c
 half-in a e b c l h (inl x) = inl (omega arith)
 half-in a e b c l h (inr x) = let x0 = x .0 in let x1 = x .1 in inr (omega arith, omega arith)
@@ -38,7 +39,7 @@ module _ {s : Space} {flags : List ℕ} (p : Passes s flags) where
   root-half a n (inl e) = inl (omega (arith, e .1))
   root-half a n (inr e) = inr (omega (arith, e .0), omega (arith, e .0, e .1))
 
-  -- and so does each region below it, since a parent stands before its children
+  -- each region lies in its root's half, since a parent stands before its children
   place-half : (n k : ℕ) → k < n → k < s .regcount → Half (regionAt s (regionPlace s k) .addr) (regionAt s (regionPlace s k) .addr + regionAt s (regionPlace s k) .size)
   place-half zero k l h = absurd (omega arith)
   place-half (suc n) k l h =
@@ -53,6 +54,7 @@ module _ {s : Space} {flags : List ℕ} (p : Passes s flags) where
       half-in _ _ _ _ (i .0) (i .1) up)
       (same? _ _)
 
+  -- by the slot
   region-half : (i : ℕ) → i < 32 → isRegion s i ≡ true → Half (regionAt s i .addr) (regionAt s i .addr + regionAt s i .size)
   region-half i l a =
       let m = p .regions .whole i l a in
@@ -77,10 +79,12 @@ module _ {s : Space} {flags : List ℕ} (p : Passes s flags) where
 
 -- the pages of a mapping
 module _ (base used access : ℕ) (C : ℕ → Type 0) (canonical : (v : ℕ) → C v → Canonical 4 v) (m : Mapping) (j first : ℕ) where
+  -- one page
   page-step : (t : Lent) → Good (t .pool) base used → (i : ℕ) → C (m .addr + i * 4096) → Step access base (m .addr + i * 4096) (t .pool) (pageDone t (base / 4096) m j access i .pool)
   unfolding pageDone
   page-step t G i c = step (t .pool) base used G (m .addr + i * 4096) (withRights (pageAt (t .flags) j i) access) access (canonical _ c) (granted-now (pageAt (t .flags) j i) access)
 
+  -- all of them
   pub pages-alike : (t : Lent) → Good (t .pool) base used → (n : ℕ) → ((i : ℕ) → first ≤ i → i < first + n → C (m .addr + i * 4096))
       → Alike access base C (t .pool) (pagesDone t (base / 4096) m j access first n .pool)
   unfolding pagesDone
@@ -91,6 +95,7 @@ module _ (base used access : ℕ) (C : ℕ → Type 0) (canonical : (v : ℕ) �
       (alike-step access base C canonical (m .addr + (first + n) * 4096) (u .pool) _ (all (first + n) (omega arith) (omega arith))
       (page-step u (pages-kept base used t m j access first n .good G) (first + n) (all (first + n) (omega arith) (omega arith))))
 
+  -- an address whose leaf is over one of them has the rights then
   pub pages-given : (t : Lent) → Good (t .pool) base used → (n : ℕ) → ((i : ℕ) → first ≤ i → i < first + n → C (m .addr + i * 4096)) → (i x l w : ℕ) → first ≤ i → i < first + n → Canonical 4 x
       → showsIn (t .pool) base (m .addr + i * 4096) ≡ view l w → x86 .kind l w ≡ leaf → x / span l ≡ (m .addr + i * 4096) / span l
       → Given access (showsIn (pagesDone t (base / 4096) m j access first n .pool) base x)
@@ -113,6 +118,7 @@ Page s r begin end v = (i : ℕ) × (j : ℕ) × InRange s r begin end i j × (p
 
 -- the mappings of a region
 module _ (s : Space) (f : List ℕ) (g : Passes s f) (base used r begin end access : ℕ) (run : begin ≤ end) (low-end : begin % 4096 ≡ 0) (high-end : end % 4096 ≡ 0) where
+  -- each is an address of the two halves
   canonical : (v : ℕ) → Page s r begin end v → Canonical 4 v
   canonical v c = subst (Canonical 4) (c .3) (page-canonical g r begin end (c .0) (c .1) (c .2))
 
@@ -121,6 +127,7 @@ module _ (s : Space) (f : List ℕ) (g : Passes s f) (base used r begin end acce
       → i < changed (mappingAt s (mappingPlace s k)) begin end .first + changed (mappingAt s (mappingPlace s k)) begin end .count → Page s r begin end (mappingAt s (mappingPlace s k) .addr + i * 4096)
   its-pages k l t i a b = (mappingPlace s k, i, in-range s f g base r begin end access run low-end high-end k (mappingPlace s k) i l t (refl, a, b), refl)
 
+  -- one mapping, then those at the first n places
   place-alike : (t : Lent) → Good (t .pool) base used → (k : ℕ) → k < s .mapcount → Alike access base (Page s r begin end) (t .pool) (mappingDone t (base / 4096) s r begin end access k .pool)
   unfolding mappingDone
   place-alike t G k l =

@@ -57,6 +57,7 @@ module _ (base : ℕ) (m : Mapping) (j access first : ℕ) where
       (same? k (first + n))
 
 module _ (s : Space) (f : List ℕ) (g : Passes s f) (base r begin end access : ℕ) (run : begin ≤ end) (low-end : begin % 4096 ≡ 0) (high-end : end % 4096 ≡ 0) where
+  -- a mapping in the list is paged
   paged-at : (k : ℕ) → k < s .mapcount → Paged (mappingAt s (mappingPlace s k))
   paged-at k l = let q = mapping-place g k l in g .paged (mappingPlace s k) (q .0) (q .1)
 
@@ -119,6 +120,7 @@ module _ (s : Space) (f : List ℕ) (g : Passes s f) (base r begin end access : 
       (λ (p : partFrom m begin ≡ begin). ⊎-elim (λ (q : partTo m end ≡ m .addr + m .size). (refl, omega arith, omega arith)) (λ (q : partTo m end ≡ end). (refl, omega arith, omega arith)) (y .2))
       (x .2)
 
+  -- the changed pages lie within the slot
   few : (k : ℕ) → k < s .mapcount → touching (mappingAt s (mappingPlace s k)) r begin end ≡ true
       → changed (mappingAt s (mappingPlace s k)) begin end .first + changed (mappingAt s (mappingPlace s k)) begin end .count ≤ 512
   few k l t = let z = paged-at k l in let z1 = z .few in let c = changed-in (mappingAt s (mappingPlace s k)) r begin end z run t in omega arith
@@ -143,7 +145,7 @@ module _ (s : Space) (f : List ℕ) (g : Passes s f) (base r begin end access : 
       let a = among (mappingPlace s k) j w in
       rw e (pages-change base (mappingAt s (mappingPlace s k)) (mappingPlace s k) access (changed (mappingAt s (mappingPlace s k)) begin end .first) t (changed (mappingAt s (mappingPlace s k)) begin end .count) j h (w .slot) (few k l e) (a .1) (a .2))
 
-  -- the places before n
+  -- the places before n: a page that is not in the range stays
   pub places-stay : (t : Lent) (n i j : ℕ) → n ≤ s .mapcount → j < 512 → ((k : ℕ) → k < n → i ≡ mappingPlace s k → InRange s r begin end i j → ⊥)
       → pageAt (mappingsDone t (base / 4096) s r begin end access n .flags) i j ≡ pageAt (t .flags) i j
   unfolding mappingsDone
@@ -152,6 +154,7 @@ module _ (s : Space) (f : List ℕ) (g : Passes s f) (base r begin end access : 
       place-stay (mappingsDone t (base / 4096) s r begin end access n) n i j (omega arith) h (none n (omega arith))
       ∙ places-stay t n i j (omega arith) h (λ k m. none k (omega arith))
 
+  -- once the place of its slot is done, a page in the range has the rights
   pub places-change : (t : Lent) (n k j : ℕ) → n ≤ s .mapcount → k < n → length (t .flags) ≡ 32768 → InRange s r begin end (mappingPlace s k) j
       → pageAt (mappingsDone t (base / 4096) s r begin end access n .flags) (mappingPlace s k) j ≡ withRights (pageAt (t .flags) (mappingPlace s k) j) access
   unfolding mappingsDone

@@ -28,6 +28,7 @@ touch-means o r a n begin end e =
     (λ (x : eqb o r ≡ false). no-truth (rw x at e))
     (tell (eqb o r))
 
+-- and the other way
 pub touch-of : (o r a n begin end : ℕ) → o ≡ r → begin ≤ a + n → a ≤ end → touches o r a n begin end ≡ true
 unfolding touches
 touch-of o r a n begin end e l h = rw (eq-eqb o r e, le-ltb (a + n) begin l) (le-leb a end h)
@@ -60,6 +61,7 @@ part-runs m begin end b l h =
     (f .2)
 
 module _ (m : Mapping) (r begin end : ℕ) where
+  -- what a mapping adds, by whether it touches
   pub part-there : touching m r begin end ≡ true → partTo m end - partFrom m begin ≡ partIn m r begin end
   unfolding partIn
   part-there e = rw e
@@ -78,6 +80,7 @@ module _ (m : Mapping) (r begin end : ℕ) where
       let t0 = t .0 in
       ⊎-elim (λ (e : touching m r begin end ≡ true). rw e (omega arith)) (λ (e : touching m r begin end ≡ false). rw e (omega arith)) (tell (touching m r begin end))
 
+  -- whether it denies, by the same
   pub denies-there : (access : ℕ) → touching m r begin end ≡ true → not (grants (m .permissions) (rights access)) ≡ denies m r begin end access
   unfolding denies
   denies-there access e = rw e

@@ -23,6 +23,7 @@ kept-bits f l =
     ∙ and-block 5 (f / 32) 7 (f % 32) 3 (omega arith) (omega arith)
     ∙ omega (arith, and-mask (f / 32) 3, and-mask (f % 32) 2)
 
+-- and has no bit in common with the rights
 apart : (x y z : ℕ) → y < 4 → z < 8 → bitAnd (x * 32 + y) (z * 4) ≡ 0
 apart x y z l h =
     ap (λ (w : ℕ). bitAnd (x * 32 + y) w) {y = 0 * 32 + z * 4} (omega arith)
@@ -53,6 +54,7 @@ sum-bits : (r w x u h n : ℕ) → r < 2 → w < 2 → x < 2 → u < 2 → h < 2
     → (has READ n ≡ r) × (has WRITE n ≡ w) × (has EXECUTE n ≡ x) × (has USER n ≡ u) × (has HUGE_PAGE n ≡ h)
 sum-bits r w x u h n a b c d e q = (omega arith, omega arith, omega arith, omega arith, omega arith)
 
+-- known flags with other rights, bit by bit
 pub new-sum : (old f : ℕ) → knownPage old ≡ true → withRights old f ≡ has READ f * 4 + has WRITE f * 8 + has EXECUTE f * 16 + has USER old * 32 + has HUGE_PAGE old * 64
 new-sum old f k = omega (arith, eqb-true (ofFive old) old k, three old, three f)
 
@@ -94,6 +96,7 @@ each-now old f = one (withRights old f) f (bits-now old f)
 any-lt : (f : ℕ) → anyRight f < 2
 any-lt f = omega arith
 
+-- the rights that an entry gives
 pub granted-rights : (f : ℕ) → rights (granted f) ≡ anyRight f * 4 + has WRITE f * 8 + has EXECUTE f * 16
 granted-rights f = rights-bits (granted f) ∙ by (anyRight f) (has WRITE f) (has EXECUTE f) (has USER f) (any-lt f) (omega arith) (omega arith)
   where
