@@ -21,7 +21,7 @@ use Rattle.refusal.specs.declared.Refusal.the-variants.{NotMapped}
 use Rattle.walk.specs.Walk.{found}
 use Rattle.walk.specs.declared.Walk.{Walk}
 use Rattle.walk.specs.declared.Walk.the-variants.{Leaf, Open}
-use Rattle.space.specs.Space.{mappingAt, isRegion, isMapping, mappingPlace}
+use Rattle.space.specs.Space.{regionAt, mappingAt, isRegion, isMapping, mappingPlace}
 use Rattle.space.specs.Passes.{pageAt, others, Pages, Passes}
 use Rattle.space.specs.declared.Mapping.{Mapping}
 use Rattle.space.specs.declared.Space.{Space}
@@ -34,7 +34,7 @@ use Rattle.table_laws.specs.Effects.{showsIn, translatesIn}
 use Rattle.table_laws.proofs.Effects.{effects}
 use Rattle.vmar_offset.specs.Offset.{slotOf}
 use Rattle.vmar_offset.proofs.Found.{slot-live}
-use Rattle.vmar_protect.specs.Protect.{withRights, touching, Lent, lent, mappingsDone, denies, deniesAt, ProtectDone, refused}
+use Rattle.vmar_protect.specs.Protect.{withRights, touches, touchesChild, touching, Lent, lent, mappingsDone, denies, deniesAt, ProtectDone, refused}
 use Rattle.vmar_protect.specs.Laws.{pageAddr, InRange, Covered, SameFrame, none, frame, Over, call, Protects, ProtectLaws}
 use Rattle.vmar_protect.specs.declared.ProtectResult.the-variants as result
 use Rattle.vmar_protect.proofs.Parts.{touch-of, denies-there}
@@ -136,6 +136,7 @@ module _ (s : Space) (f p : List ℕ) (base used id begin len access : ℕ) (g :
         passes = subst (Passes s) (sym e1) g;
         good = subst (λ (x : List ℕ). Good x base used) (sym e2) G;
         live = λ h. absurd (refused-not (sym e0 ∙ h));
+        childless = λ h. absurd (refused-not (sym e0 ∙ h));
         covered = λ h. absurd (refused-not (sym e0 ∙ h));
         granting = λ h. absurd (refused-not (sym e0 ∙ h));
         changes = λ h. absurd (refused-not (sym e0 ∙ h));
@@ -161,6 +162,12 @@ module _ (s : Space) (f p : List ℕ) (base used id begin len access : ℕ) (g :
 
     live : (slotOf s id < 32) × (isRegion s (slotOf s id) ≡ true)
     live = let q = slot-live s id (A .live) in (q .0, q .1)
+
+    childless : (i : ℕ) → i < 32 → isRegion s i ≡ true → touches (regionAt s i .parent) (slotOf s id) (regionAt s i .addr) (regionAt s i .size) begin (begin + len) ≡ false
+    childless i l a =
+        let q = g .regions .whole i l a in
+        subst (λ (x : ℕ). touches (regionAt s x .parent) (slotOf s id) (regionAt s x .addr) (regionAt s x .size) begin (begin + len) ≡ false) (q .2)
+        (none-passes (touchesChild s (slotOf s id) begin (begin + len)) 0 (s .regcount) (q .0) (A .childless) (omega arith) (q .1))
 
     changes : (i j : ℕ) → InRange s (slotOf s id) begin (begin + len) i j → pageAt (now .flags) i j ≡ withRights (pageAt f i j) access
     changes i j w =
@@ -285,6 +292,7 @@ module _ (s : Space) (f p : List ℕ) (base used id begin len access : ℕ) (g :
           passes = subst (Passes s) (sym e1) passes;
           good = subst (λ (x : List ℕ). Good x base used) (sym e2) good;
           live = λ h. live;
+          childless = λ h. childless;
           covered = λ h. covered;
           granting = λ h. grants-all;
           changes = λ h i j w. ap (λ (x : List ℕ). pageAt x i j) e1 ∙ changes i j w;

@@ -3,7 +3,7 @@
 -- rights may change outside the range too, and "On an unused entry the port answers 6", so that no address gains a frame.
 use Prim.Native.Nat.{ℕ, _+_, _*_, _/_, _≤_, _<_}
 use mathlib.Core.Path.{_≡_}
-use mathlib.Core.Bool.{true}
+use mathlib.Core.Bool.{true, false}
 use mathlib.Core.List.{List}
 use Rattle.paging.specs.Level.{span, Canonical}
 use Rattle.paging.specs.Table.{view, to}
@@ -14,7 +14,7 @@ use Rattle.x86_64.specs.Entry.{granted}
 use Rattle.form.specs.Form.{Good}
 use Rattle.refusal.specs.declared.Refusal.{Refusal}
 use Rattle.space.specs.Range.{contains}
-use Rattle.space.specs.Space.{mappingAt, isRegion, isMapping}
+use Rattle.space.specs.Space.{regionAt, mappingAt, isRegion, isMapping}
 use Rattle.space.specs.Passes.{pageAt, Passes}
 use Rattle.space.specs.declared.Space.{Space}
 use Rattle.table.specs.Table.{queried}
@@ -22,7 +22,7 @@ use Rattle.table.specs.declared.QueryResult.{QueryResult}
 use Rattle.table.specs.declared.QueryResult.the-variants as query
 use Rattle.table_laws.specs.Effects.{showsIn, translatesIn}
 use Rattle.vmar_offset.specs.Offset.{slotOf}
-use Rattle.vmar_protect.specs.Protect.{touching, withRights, lent, ProtectDone, protected}
+use Rattle.vmar_protect.specs.Protect.{touches, touching, withRights, lent, ProtectDone, protected}
 use Rattle.vmar_protect.specs.declared.ProtectResult.the-variants as result
 
 -- known page flags with the rights of `access`: exactly those, and their own USER and HUGE_PAGE
@@ -65,6 +65,7 @@ pub data SameFrame : QueryResult → QueryResult → Type 0 where
 abbrev pub Over : List ℕ → ℕ → ℕ → ℕ → Type 0
 Over p base v x = (l : ℕ) × (w : ℕ) × (showsIn p base v ≡ view l w) × (x / span l ≡ v / span l)
 
+-- the call on the two buffers
 abbrev pub call : Space → List ℕ → List ℕ → ℕ → ℕ → ℕ → ℕ → ℕ → ProtectDone
 call s f p base id begin len access = protected s (lent f p) (base / 4096) id begin len access
 
@@ -77,6 +78,9 @@ pub record Protects (s : Space) (f p : List ℕ) (base used id begin len access 
   pub good : Good (call s f p base id begin len access .pool) base used
   -- an accepted call is one on a live region
   pub live : call s f p base id begin len access .result ≡ result.Protected → (slotOf s id < 32) × (isRegion s (slotOf s id) ≡ true)
+  -- no child of it touches the range: "a child that merely touches gives 1"
+  pub childless : call s f p base id begin len access .result ≡ result.Protected
+      → (i : ℕ) → i < 32 → isRegion s i ≡ true → touches (regionAt s i .parent) (slotOf s id) (regionAt s i .addr) (regionAt s i .size) begin (begin + len) ≡ false
   -- it finds every address of the range in a mapping of the region that grants the rights
   pub covered : call s f p base id begin len access .result ≡ result.Protected
       → (x : ℕ) → begin ≤ x → x < begin + len → Covered s (slotOf s id) access x
