@@ -1,0 +1,34 @@
+-- What a part of a mapping is. Document 01, 'Sizes and buffers': "512 [bytes] for each mapping", one for each page; "Flags .. past a mapping's last page are zero";
+-- 'Traps': "Trimming page flags by bytes". A part's VMO range and its page flags are those that the mapping had there.
+use Prim.Native.Nat.{ℕ, _+_, _*_, _/_, _%_, _≤_, _<_}
+use mathlib.Core.Path.{_≡_}
+use mathlib.Core.Bool.{true}
+use mathlib.Core.List.{List}
+use Rattle.space.specs.Space.{mappingAt, isMapping}
+use Rattle.space.specs.Passes.{pageAt}
+use Rattle.space.specs.declared.Mapping.{Mapping}
+use Rattle.space.specs.declared.Space.{Space}
+
+-- k is the mapping m from its page d on, or from there to an earlier end
+pub record PartOf (m k : Mapping) (d : ℕ) : Type 0 where
+  pub live : k .live ≡ true
+  pub region : k .region ≡ m .region
+  pub addr : k .addr ≡ m .addr + d * 4096
+  pub size : k .size % 4096 ≡ 0
+  pub end : d * 4096 + k .size ≤ m .size
+  pub vmo : k .vmo ≡ m .vmo
+  pub offset : k .offset ≡ m .offset + d * 4096
+  pub permissions : k .permissions ≡ m .permissions
+
+-- the n pages of slot j of the flags g are those of slot i of f from page d on; past them are zeros
+pub record Moved (f : List ℕ) (i d : ℕ) (g : List ℕ) (j n : ℕ) : Type 0 where
+  pub pages : (p : ℕ) → p < n → pageAt g j p ≡ pageAt f i (d + p)
+  pub past : (p : ℕ) → n ≤ p → p < 512 → pageAt g j p ≡ 0
+
+-- slot j of t and g holds a part of the live mapping in slot i of s and f
+pub record Taken (s : Space) (f : List ℕ) (i : ℕ) (t : Space) (g : List ℕ) (j : ℕ) : Type 0 where
+  pub slot : i < 64
+  pub live : isMapping s i ≡ true
+  pub skip : ℕ
+  pub part : PartOf (mappingAt s i) (mappingAt t j) skip
+  pub flags : Moved f i skip g j (mappingAt t j .size / 4096)
