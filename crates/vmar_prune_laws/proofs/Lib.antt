@@ -1,1 +1,3 @@
 pub mod Packs
+pub mod Pieces
+pub mod Copies
