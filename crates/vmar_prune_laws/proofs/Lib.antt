@@ -1,3 +1,5 @@
 pub mod Packs
 pub mod Pieces
 pub mod Copies
+pub mod Shape
+pub mod Passing

@@ -144,26 +144,48 @@ module _ (keeps : ℕ → Bool) (blank list : List ℕ) where
     only = kept-only count;
   }
 
--- where the slots that are kept are those that live afterwards, the new list holds each once
-module _ {n : ℕ} {list : List ℕ} {count : ℕ} {lives : ℕ → Bool} (listed : Listed n list count lives) {keeps : ℕ → Bool} {new : List ℕ} {now : ℕ}
-    (inorder : InOrder keeps list count new now) (fewer : now ≤ count) (blank : (k : ℕ) → now ≤ k → k < n → getD new k 0 ≡ 0)
-    (lives′ : ℕ → Bool) (agree : (i : ℕ) → i < n → lives i ≡ true → keeps i ≡ lives′ i) (old : (i : ℕ) → i < n → lives′ i ≡ true → lives i ≡ true) where
+module _ {keeps : ℕ → Bool} {list : List ℕ} {count : ℕ} {new : List ℕ} {now : ℕ} (inorder : InOrder keeps list count new now) where
   -- the place that place k comes from
-  source : (k : ℕ) → k < now → (j : ℕ) × (j < count) × (keeps (getD list j 0) ≡ true) × (inorder .to j ≡ k) × (getD new k 0 ≡ getD list j 0)
+  pub source : (k : ℕ) → k < now → (j : ℕ) × (j < count) × (keeps (getD list j 0) ≡ true) × (inorder .to j ≡ k) × (getD new k 0 ≡ getD list j 0)
   source k h =
       let m = inorder .only k h in
       (m .0, m .1, m .2, m .3, subst (λ (x : ℕ). getD new x 0 ≡ getD list (m .0) 0) (m .3) (inorder .stays (m .0) (m .1) (m .2) .1))
 
+  -- the first place stays the first
+  pub first-stays : 0 < count → keeps (getD list 0 0) ≡ true → inorder .to 0 ≡ 0
+  first-stays l t =
+      let w = inorder .stays 0 l t .0 in
+      let m = inorder .only 0 (omega arith) in
+      let z = m .3 in
+      ⊎-elim
+      (λ (e : m .0 ≡ 0). subst (λ (x : ℕ). inorder .to x ≡ 0) e z)
+      (λ (e : m .0 ≡ 0 → ⊥). let y = inorder .order 0 (m .0) (omega arith) (m .1) t in absurd (omega arith))
+      (same? (m .0) 0)
+
+  -- the same by another test that agrees, in another list that does
+  pub order-by : (keeps′ : ℕ → Bool) (new′ : List ℕ) → ((j : ℕ) → j < count → keeps′ (getD list j 0) ≡ keeps (getD list j 0))
+      → ((k : ℕ) → k < now → getD new′ k 0 ≡ getD new k 0) → InOrder keeps′ list count new′ now
+  order-by keeps′ new′ agree same = record {
+    to = inorder .to;
+    stays = λ j h t. let w = inorder .stays j h (sym (agree j h) ∙ t) in (w .0, same (inorder .to j) (w .0) ∙ w .1);
+    order = λ j k h l t. inorder .order j k h l (sym (agree j (omega arith)) ∙ t);
+    only = λ k h. let m = inorder .only k h in (m .0, m .1, agree (m .0) (m .1) ∙ m .2, m .3);
+  }
+
+-- where the slots that are kept are those that live afterwards, the new list holds each once
+module _ {n : ℕ} {list : List ℕ} {count : ℕ} {lives : ℕ → Bool} (listed : Listed n list count lives) {keeps : ℕ → Bool} {new : List ℕ} {now : ℕ}
+    (inorder : InOrder keeps list count new now) (fewer : now ≤ count) (blank : (k : ℕ) → now ≤ k → k < n → getD new k 0 ≡ 0)
+    (lives′ : ℕ → Bool) (agree : (i : ℕ) → i < n → lives i ≡ true → keeps i ≡ lives′ i) (old : (i : ℕ) → i < n → lives′ i ≡ true → lives i ≡ true) where
   pub listed-kept : Listed n new now lives′
   listed-kept = record { room = let z = listed .room in omega arith; slot = slot; once = once; rest = blank; live = live; whole = whole }
     where
       slot : (k : ℕ) → k < now → getD new k 0 < n
-      slot k h = let m = source k h in let z = listed .slot (m .0) (m .1) in let w = m .4 in omega arith
+      slot k h = let m = source inorder k h in let z = listed .slot (m .0) (m .1) in let w = m .4 in omega arith
 
       once : (j k : ℕ) → j < k → k < now → getD new j 0 ≡ getD new k 0 → ⊥
       once j k h l q =
-          let a = source j (omega arith) in
-          let b = source k l in
+          let a = source inorder j (omega arith) in
+          let b = source inorder k l in
           let e : getD list (a .0) 0 ≡ getD list (b .0) 0 = sym (a .4) ∙ q ∙ b .4 in
           let za = a .3 in
           let zb = b .3 in
@@ -177,7 +199,7 @@ module _ {n : ℕ} {list : List ℕ} {count : ℕ} {lives : ℕ → Bool} (liste
 
       live : (i : ℕ) → i < n → In new now i → lives′ i ≡ true
       live i h (k, l, q) =
-          let m = source k l in
+          let m = source inorder k l in
           let e : getD list (m .0) 0 ≡ i = sym (m .4) ∙ q in
           sym (agree i h (listed .live i h (m .0, m .1, e))) ∙ subst (λ (x : ℕ). keeps x ≡ true) e (m .2)
 
