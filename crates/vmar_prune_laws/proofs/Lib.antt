@@ -3,3 +3,4 @@ pub mod Pieces
 pub mod Copies
 pub mod Shape
 pub mod Passing
+pub mod Made

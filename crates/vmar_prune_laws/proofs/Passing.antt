@@ -46,6 +46,16 @@ moved-pages f g i d j n most l p m = record {
   past = m .past;
 }
 
+-- no two mappings of a region overlap, whichever slot is the lower
+pub apart-any : {s : Space} {f : List ℕ} (p : Passes s f) (i j : ℕ) → (i ≡ j → ⊥) → i < 64 → j < 64 → isMapping s i ≡ true → isMapping s j ≡ true
+    → mappingAt s i .region ≡ mappingAt s j .region
+    → overlap (mappingAt s i .addr) (mappingAt s i .size) (mappingAt s j .addr) (mappingAt s j .size) ≡ false
+apart-any p i j d l k a y q =
+    ⊎-elim
+    (λ (w : j < i). p .apart .mappings i j w l a y q)
+    (λ (w : i ≤ j). flip _ _ _ _ (p .apart .mappings j i (omega arith) k y a (sym q)))
+    (below? j i)
+
 module _ {s : Space} {f : List ℕ} {marks : List Bool} {r b e : ℕ} (c : Cutting s f marks r b e) {t : Space} {g : List ℕ} (h : Shape s f marks r b e t g) where
   abbrev p : Passes s f
   p = c .passes
@@ -210,22 +220,13 @@ module _ {s : Space} {f : List ℕ} {marks : List Bool} {r b e : ℕ} (c : Cutti
           (subst (λ (y : ℕ). inside (mappingAt t x .addr) (mappingAt t x .size) (regionAt s y .addr) (regionAt s y .size) ≡ true) (sym (k .part .region))
           (part-inside _ _ _ (k .part) _ _ (p .inner .mapping (m .0) (k .slot) (k .live))))
 
-  -- no two mappings of a region overlap, whichever slot is the lower
-  apart-any : (i j : ℕ) → (i ≡ j → ⊥) → i < 64 → j < 64 → isMapping s i ≡ true → isMapping s j ≡ true → mappingAt s i .region ≡ mappingAt s j .region
-      → overlap (mappingAt s i .addr) (mappingAt s i .size) (mappingAt s j .addr) (mappingAt s j .size) ≡ false
-  apart-any i j d l k a y q =
-      ⊎-elim
-      (λ (w : j < i). p .apart .mappings i j w l a y q)
-      (λ (w : i ≤ j). flip _ _ _ _ (p .apart .mappings j i (omega arith) k y a (sym q)))
-      (below? j i)
-
   abbrev Clear : ℕ → ℕ → Type 0
   Clear x y = mappingAt t x .region ≡ mappingAt t y .region → overlap (mappingAt t x .addr) (mappingAt t x .size) (mappingAt t y .addr) (mappingAt t y .size) ≡ false
 
   parts-clear : (i j x y : ℕ) → (i ≡ j → ⊥) → Taken s f i t g x → Taken s f j t g y → Clear x y
   parts-clear i j x y d u v q =
       flip _ _ _ _ (part-apart _ _ _ (u .part) _ _ (flip _ _ _ _ (part-apart _ _ _ (v .part) _ _
-      (apart-any i j d (u .slot) (v .slot) (u .live) (v .live) (sym (u .part .region) ∙ q ∙ v .part .region)))))
+      (apart-any p i j d (u .slot) (v .slot) (u .live) (v .live) (sym (u .part .region) ∙ q ∙ v .part .region)))))
 
   -- the two parts of the mapping that is split
   halves-clear : (i y : ℕ) → First s f marks r b e t g i → Second s f r b e t g i y → Clear i y

@@ -1,3 +1,4 @@
 pub mod Cutting
 pub mod Order
 pub mod Part
+pub mod Lists
