@@ -4,3 +4,5 @@ pub mod Copies
 pub mod Shape
 pub mod Passing
 pub mod Made
+pub mod Ids
+pub mod Cuts

@@ -152,7 +152,7 @@ module _ {s : Space} {f : List ℕ} {marks : List Bool} {r b e : ℕ} (c : Cutti
   }
 
   -- two mappings that are split are one
-  one-split : (i j : ℕ) → i < 64 → j < 64 → splitAt s r b e i ≡ true → splitAt s r b e j ≡ true → i ≡ j
+  pub one-split : (i j : ℕ) → i < 64 → j < 64 → splitAt s r b e i ≡ true → splitAt s r b e j ≡ true → i ≡ j
   one-split i j l k u v =
       ⊎-elim
       (λ (z : i ≡ j). z)

@@ -143,7 +143,7 @@ module _ {s : Space} {f : List ℕ} {marks : List Bool} {r b e : ℕ} (c : Cutti
       (λ (x : getD marks r false ≡ false). x)
       (tell (getD marks r false))
 
-  first-origin : (x : ℕ) → x < 64 → First s f marks r b e t g x → isMapping t x ≡ true → Origin x x
+  pub first-origin : (x : ℕ) → x < 64 → First s f marks r b e t g x → isMapping t x ≡ true → Origin x x
   first-origin x l w a =
       ⊎-elim
       (λ (y : isMapping s x ≡ true).
@@ -161,7 +161,7 @@ module _ {s : Space} {f : List ℕ} {marks : List Bool} {r b e : ℕ} (c : Cutti
       free-stays y k q =
           ap (keptMapping marks r b e) (p .blank .mapping y k q) ∙ dead-stays marks r b e (keptMapping marks r b e blankMapping) (outcome marks r b e blankMapping)
 
-  second-origin : (i x : ℕ) → Second s f r b e t g i x → Origin i x
+  pub second-origin : (i x : ℕ) → Second s f r b e t g i x → Origin i x
   second-origin i x w =
       let y = split-is (mappingAt s i) r b e (w .split) in
       let q = p .paged i (w .slot) (y .0) in

@@ -113,6 +113,10 @@ pub kept-of : (marks : List Bool) (r b e : ℕ) (m : Mapping) → getD marks (m 
 unfolding keptMapping
 kept-of marks r b e m x y = rw (x, eq-eqb (m .region) r y)
 
+pub kept-other : (marks : List Bool) (r b e : ℕ) (m : Mapping) → getD marks (m .region) false ≡ false → (m .region ≡ r → ⊥) → keptMapping marks r b e m ≡ m
+unfolding keptMapping
+kept-other marks r b e m x y = rw (x, ne-eqb (m .region) r y)
+
 -- which mapping is split
 three : (a c x y : Bool) → pick a (pick c (pick x false (not y)) false) false ≡ true → (a ≡ true) × (c ≡ true) × (x ≡ false) × (y ≡ false)
 three true true true y t = no-truth t

@@ -2,3 +2,4 @@ pub mod Cutting
 pub mod Order
 pub mod Part
 pub mod Lists
+pub mod Cut
