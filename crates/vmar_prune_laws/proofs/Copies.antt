@@ -1,16 +1,16 @@
 -- Page flags that are copied within the lent bytes: what each slot's pages are afterwards.
 use Prim.Native.Nat.{ℕ, zero, suc, _+_, _-_, _*_, _/_, _≤_, _<_}
 use mathlib.Core.Path.{_≡_, refl, sym, _∙_, ap, subst}
-use mathlib.Core.Bool.{Bool, true, false}
+use mathlib.Core.Bool.{Bool}
 use mathlib.Core.List.{List}
 use mathlib.Core.Logic.{⊎-elim}
 use native.Mathlib.Omega.{arith}
-use lib.Dec.{eqb, ltb}
+use lib.Dec.{ltb}
 use lib.ListN.{length, getD, set, length-set}
 use lib.Seq.{getD-set-same, getD-set-other}
 use borrow.Author.Tests.{eq-eqb, ne-eqb, lt-ltb, le-ltb}
 use Rattle.paging.specs.Choice.{pick}
-use Rattle.paging.proofs.Cases.{same?, below?}
+use Rattle.paging.proofs.Cases.{same?}
 use Rattle.space.specs.Space.{blankMapping}
 use Rattle.space.specs.Passes.{pageAt}
 use Rattle.space.specs.declared.Mapping.{Mapping}

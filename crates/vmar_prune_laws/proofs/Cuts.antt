@@ -1,5 +1,5 @@
 -- What a cut does: all of `Cut`.
-use Prim.Native.Nat.{ℕ, zero, _+_, _-_, _*_, _/_, _≤_, _<_}
+use Prim.Native.Nat.{ℕ, _+_, _-_, _/_, _≤_, _<_}
 use mathlib.Core.Path.{_≡_, refl, sym, _∙_, ap, subst}
 use mathlib.Core.Bool.{Bool, true, false}
 use mathlib.Core.List.{List}
@@ -7,7 +7,7 @@ use mathlib.Core.Logic.{_⊎_, inl, inr, ⊎-elim}
 use native.Mathlib.Omega.{arith}
 use lib.ListN.{getD}
 use Rattle.paging.proofs.Cases.{same?, below?, no-truth, clash}
-use Rattle.scan.proofs.Scans.{first-most, first-passes, before-first}
+use Rattle.scan.proofs.Scans.{first-passes, before-first}
 use Rattle.space.specs.Range.{contains}
 use Rattle.space.specs.Space.{mappingAt, isMapping}
 use Rattle.space.specs.Passes.{Passes, pageAt}
@@ -16,15 +16,15 @@ use Rattle.space.specs.declared.Space.{Space}
 use Rattle.space.proofs.Ranges.{holds, holds-of}
 use Rattle.vmar_offset.specs.Offset.{freeMapping}
 use Rattle.vmar_prune.specs.Piece.{before, after, left, right, piece}
-use Rattle.vmar_prune.specs.Prune.{keptMapping, splitAt, splitSlot, cutSpace, cutFlags}
+use Rattle.vmar_prune.specs.Prune.{splitAt, splitSlot}
 use Rattle.vmar_prune_laws.specs.Cutting.{Cutting}
-use Rattle.vmar_prune_laws.specs.Part.{PartOf, Moved, Taken}
+use Rattle.vmar_prune_laws.specs.Part.{Moved, Taken}
 use Rattle.vmar_prune_laws.specs.Lists.{MapList}
-use Rattle.vmar_prune_laws.specs.Cut.{RegionsCut, SameAt, MappingsCut, Cut, CutAll}
+use Rattle.vmar_prune_laws.specs.Cut.{SameAt, MappingsCut, Cut, CutAll}
 use Rattle.vmar_prune_laws.proofs.Pieces.{before-most, before-least, after-most, after-least, none, ending, beginning, piece-left, piece-right, Outcome, dropped, other, cut, outcome, kept-of, kept-other, split-is, split-of}
 use Rattle.vmar_prune_laws.proofs.Copies.{Begins}
-use Rattle.vmar_prune_laws.proofs.Shape.{Second, First, Slot, old, new, Shape}
-use Rattle.vmar_prune_laws.proofs.Passing.{stands, gone, Origin, first-origin, second-origin, origin, shape-passes}
+use Rattle.vmar_prune_laws.proofs.Shape.{First, Slot, old, new, Shape}
+use Rattle.vmar_prune_laws.proofs.Passing.{stands, gone, first-origin, second-origin, origin, shape-passes}
 use Rattle.vmar_prune_laws.proofs.Ids.{dead, shape-later}
 use Rattle.vmar_prune_laws.proofs.Made.{one-split, cut-shape, cut-list}
 

@@ -6,3 +6,4 @@ pub mod Passing
 pub mod Made
 pub mod Ids
 pub mod Cuts
+pub mod Calls

@@ -1,17 +1,15 @@
 -- The space and the flags after a cut have the shape that the laws stand on.
-use Prim.Native.Nat.{ℕ, zero, suc, _+_, _-_, _*_, _/_, _≤_, _<_}
+use Prim.Native.Nat.{ℕ, _+_, _-_, _*_, _/_, _≤_, _<_}
 use mathlib.Core.Path.{_≡_, refl, sym, _∙_, ap, subst}
 use mathlib.Core.Bool.{Bool, true, false}
 use mathlib.Core.List.{List}
 use mathlib.Core.Logic.{⊎-elim}
 use native.Mathlib.Omega.{arith}
-use lib.Dec.{ltb}
 use lib.ListN.{length, getD, replicate, length-replicate, getD-replicate}
 use borrow.Author.Tests.{lt-ltb, le-ltb}
-use Rattle.paging.specs.Choice.{pick}
 use Rattle.paging.proofs.Cases.{same?, below?, no-truth, clash}
 use Rattle.scan.proofs.Scans.{tell, first-passes, before-first}
-use Rattle.space.specs.Space.{regionAt, mappingAt, isRegion, isMapping, regionPlace, mappingPlace, blankRegion, blankMapping, withMapping}
+use Rattle.space.specs.Space.{regionAt, mappingAt, isMapping, regionPlace, mappingPlace, blankRegion, blankMapping, withMapping}
 use Rattle.space.specs.Passes.{Listed, Passes, pageAt}
 use Rattle.space.specs.Arrays.{Arrays}
 use Rattle.space.specs.declared.Region.{Region}
@@ -24,8 +22,8 @@ use Rattle.vmar_offset.proofs.Found.{free-mapping}
 use Rattle.vmar_laws.proofs.Lists.{last-place, early-place, listed-more}
 use Rattle.vmar_laws.proofs.Slots.{Fills, here, there}
 use Rattle.vmar_laws.proofs.Mapping.{mapping-arrays}
-use Rattle.vmar_prune.specs.Piece.{after, copied, handed}
-use Rattle.vmar_prune.specs.Prune.{keptRegion, keptMapping, regionsTo, mappingsTo, keptSlots, liveSlots, packed, pruned, splitAt, splitSlot, secondPart, cutSpace, retainedTo, handedOver, cutFlags}
+use Rattle.vmar_prune.specs.Piece.{after, handed}
+use Rattle.vmar_prune.specs.Prune.{keptRegion, keptMapping, regionsTo, mappingsTo, keptSlots, liveSlots, pruned, splitAt, splitSlot, secondPart, cutSpace, retainedTo, handedOver, cutFlags}
 use Rattle.vmar_prune_laws.specs.Cutting.{Cutting}
 use Rattle.vmar_prune_laws.specs.Order.{InOrder}
 use Rattle.vmar_prune_laws.specs.Part.{Moved}
@@ -33,7 +31,7 @@ use Rattle.vmar_prune_laws.specs.Lists.{MapList}
 use Rattle.vmar_prune_laws.proofs.Packs.{each-length, each-at, place-most, kept-length, kept-rest, packed-order, order-by, listed-kept}
 use Rattle.vmar_prune_laws.proofs.Pieces.{before-most, after-most, outcome, dead-stays, split-is}
 use Rattle.vmar_prune_laws.proofs.Copies.{copied-length, copy-moved, copy-other, same-pages, Begins, after-length, after-same, after-moved}
-use Rattle.vmar_prune_laws.proofs.Shape.{Second, First, Slot, old, new, Shape}
+use Rattle.vmar_prune_laws.proofs.Shape.{Second, First, old, new, Shape}
 use Rattle.vmar_prune_laws.proofs.Passing.{apart-any}
 
 -- the arrays of records

@@ -1,11 +1,11 @@
 -- A space that passes its check still passes it after a cut.
-use Prim.Native.Nat.{ℕ, zero, _+_, _-_, _*_, _/_, _≤_, _<_}
+use Prim.Native.Nat.{ℕ, _+_, _-_, _/_, _≤_, _<_}
 use mathlib.Core.Path.{_≡_, refl, sym, _∙_, ap, subst}
 use mathlib.Core.Bool.{Bool, true, false, not}
 use mathlib.Core.List.{List}
-use mathlib.Core.Logic.{_⊎_, inl, inr, ⊎-elim}
+use mathlib.Core.Logic.{inr, ⊎-elim}
 use native.Mathlib.Omega.{arith}
-use lib.ListN.{length, getD}
+use lib.ListN.{getD}
 use borrow.Author.Tests.{not-true}
 use Rattle.paging.specs.Choice.{pick}
 use Rattle.paging.proofs.Cases.{same?, below?, no-truth, clash}
@@ -13,7 +13,7 @@ use Rattle.common.specs.Flags.{knownPage, knownRegion}
 use Rattle.scan.proofs.Scans.{tell}
 use Rattle.space.specs.Range.{overlap, inside}
 use Rattle.space.specs.Space.{regionAt, mappingAt, isRegion, isMapping, regionPlace, noRegion, blankRegion, blankMapping}
-use Rattle.space.specs.Passes.{In, Listed, RootRange, Tree, Inside, Apart, Paged, Pages, Ids, Blank, Known, others, pageAt, Passes}
+use Rattle.space.specs.Passes.{In, Listed, RootRange, Tree, Inside, Apart, Paged, Pages, others, Passes}
 use Rattle.space.specs.declared.Region.{Region}
 use Rattle.space.specs.declared.Mapping.{Mapping}
 use Rattle.space.specs.declared.Space.{Space}
@@ -21,12 +21,12 @@ use Rattle.space.proofs.Ranges.{apart-of}
 use Rattle.space.proofs.Facts.{region-place}
 use Rattle.vmar_laws.proofs.Child.{parent-lives}
 use Rattle.vmar_laws.proofs.Ranges.{flip}
-use Rattle.vmar_prune.specs.Piece.{before, after, left, right}
+use Rattle.vmar_prune.specs.Piece.{before, after, left}
 use Rattle.vmar_prune.specs.Prune.{keptMapping}
 use Rattle.vmar_prune_laws.specs.Cutting.{Cutting}
 use Rattle.vmar_prune_laws.specs.Part.{PartOf, Moved, Taken}
 use Rattle.vmar_prune_laws.proofs.Packs.{source, first-stays, listed-kept}
-use Rattle.vmar_prune_laws.proofs.Pieces.{before-most, after-most, after-pages, Piece, none, ending, beginning, piece-left, Outcome, dropped, other, cut, outcome, kept-of, split-is, right-part, part-paged, part-inside, part-apart, stays, dead-stays}
+use Rattle.vmar_prune_laws.proofs.Pieces.{before-most, after-most, after-pages, none, ending, beginning, piece-left, Outcome, dropped, other, cut, outcome, kept-of, split-is, right-part, part-paged, part-inside, part-apart, stays, dead-stays}
 use Rattle.vmar_prune_laws.proofs.Copies.{Begins}
 use Rattle.vmar_prune_laws.proofs.Shape.{Second, First, Slot, old, new, Shape}
 

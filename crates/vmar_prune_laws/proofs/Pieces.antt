@@ -1,15 +1,15 @@
 -- What a slot keeps of its mapping: nothing, all of it, or a part.
-use Prim.Native.Nat.{ℕ, zero, _+_, _-_, _*_, _/_, _%_, _^_, _≤_, _<_}
-use mathlib.Core.Path.{_≡_, refl, sym, _∙_, ap, subst}
+use Prim.Native.Nat.{ℕ, _+_, _-_, _*_, _/_, _%_, _≤_, _<_}
+use mathlib.Core.Path.{_≡_, refl, sym, subst}
 use mathlib.Core.Bool.{Bool, true, false, not}
 use mathlib.Core.List.{List}
-use mathlib.Core.Logic.{_⊎_, inl, inr, ⊎-elim}
+use mathlib.Core.Logic.{inl, inr, ⊎-elim}
 use native.Mathlib.Omega.{arith}
-use lib.Dec.{eqb, ltb}
+use lib.Dec.{eqb}
 use lib.ListN.{getD}
-use borrow.Author.Tests.{eqb-true, eqb-false, eq-eqb, ne-eqb, lt-ltb, le-ltb, not-true}
+use borrow.Author.Tests.{eqb-true, eqb-false, eq-eqb, ne-eqb, lt-ltb, le-ltb}
 use Rattle.paging.specs.Choice.{pick}
-use Rattle.paging.proofs.Cases.{same?, below?, no-truth}
+use Rattle.paging.proofs.Cases.{below?, no-truth}
 use Rattle.scan.proofs.Scans.{tell}
 use Rattle.space.specs.Range.{overlap, inside}
 use Rattle.space.specs.Space.{blankMapping}
@@ -28,38 +28,42 @@ least-of P x y a c =
     (λ (l : y ≤ x). subst (λ (t : Bool). P (pick t x y)) (sym (le-ltb x y l)) (c l))
     (below? x y)
 
+module _ (x y : ℕ) where
+  least-most : (least x y ≤ x) × (least x y ≤ y)
+  least-most = least-of (λ (n : ℕ). (n ≤ x) × (n ≤ y)) x y (λ l. (omega arith, l)) (λ l. (l, omega arith))
+
+  least-least : (n : ℕ) → n ≤ x → n ≤ y → n ≤ least x y
+  least-least n h k = least-of (λ (z : ℕ). n ≤ z) x y (λ l. h) (λ l. k)
+
+  least-pages : x % 4096 ≡ 0 → y % 4096 ≡ 0 → least x y % 4096 ≡ 0
+  least-pages h k = least-of (λ (z : ℕ). z % 4096 ≡ 0) x y (λ l. h) (λ l. k)
+
 -- how much of a mapping lies before b, and from e on
 module _ (m : Mapping) (b : ℕ) where
   pub before-most : (before m b ≤ m .size) × (before m b ≤ b - m .addr)
   unfolding before
-  before-most = least-of (λ (n : ℕ). (n ≤ m .size) × (n ≤ b - m .addr)) (m .size) (b - m .addr) (λ l. (omega arith, l)) (λ l. (l, omega arith))
+  before-most = least-most (m .size) (b - m .addr)
 
   pub before-least : (n : ℕ) → n ≤ m .size → n ≤ b - m .addr → n ≤ before m b
   unfolding before
-  before-least n h k = least-of (λ (x : ℕ). n ≤ x) (m .size) (b - m .addr) (λ l. h) (λ l. k)
+  before-least = least-least (m .size) (b - m .addr)
 
   pub before-pages : Paged m → b % 4096 ≡ 0 → before m b % 4096 ≡ 0
   unfolding before
-  before-pages p h =
-      let pa = p .addr in
-      let ps = p .size in
-      least-of (λ (x : ℕ). x % 4096 ≡ 0) (m .size) (b - m .addr) (λ l. ps) (λ l. omega arith)
+  before-pages p h = let a = p .addr in least-pages (m .size) (b - m .addr) (p .size) (omega arith)
 
 module _ (m : Mapping) (e : ℕ) where
   pub after-most : (after m e ≤ m .size) × (after m e ≤ m .addr + m .size - e)
   unfolding after
-  after-most = least-of (λ (n : ℕ). (n ≤ m .size) × (n ≤ m .addr + m .size - e)) (m .size) (m .addr + m .size - e) (λ l. (omega arith, l)) (λ l. (l, omega arith))
+  after-most = least-most (m .size) (m .addr + m .size - e)
 
   pub after-least : (n : ℕ) → n ≤ m .size → n ≤ m .addr + m .size - e → n ≤ after m e
   unfolding after
-  after-least n h k = least-of (λ (x : ℕ). n ≤ x) (m .size) (m .addr + m .size - e) (λ l. h) (λ l. k)
+  after-least = least-least (m .size) (m .addr + m .size - e)
 
   pub after-pages : Paged m → e % 4096 ≡ 0 → after m e % 4096 ≡ 0
   unfolding after
-  after-pages p h =
-      let pa = p .addr in
-      let ps = p .size in
-      least-of (λ (x : ℕ). x % 4096 ≡ 0) (m .size) (m .addr + m .size - e) (λ l. ps) (λ l. omega arith)
+  after-pages p h = let a = p .addr in let z = p .size in least-pages (m .size) (m .addr + m .size - e) z (omega arith)
 
 -- what is kept: nothing, the end, or the beginning
 pub data Piece (m : Mapping) (b e : ℕ) : Mapping → Type 0 where

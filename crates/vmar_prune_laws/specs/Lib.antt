@@ -3,3 +3,4 @@ pub mod Order
 pub mod Part
 pub mod Lists
 pub mod Cut
+pub mod Calls

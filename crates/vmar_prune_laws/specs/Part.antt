@@ -1,4 +1,4 @@
--- What a part of a mapping is. Document 01, 'Sizes and buffers': "512 [bytes] for each mapping", one for each page; "Flags .. past a mapping's last page are zero";
+-- What a part of a mapping is. Document 01, 'Sizes and buffers': "32,768 bytes of lent page flags, 512 for each mapping"; "Flags .. past a mapping's last page are zero";
 -- 'Traps': "Trimming page flags by bytes". A part's VMO range and its page flags are those that the mapping had there.
 use Prim.Native.Nat.{ℕ, _+_, _*_, _/_, _%_, _≤_, _<_}
 use mathlib.Core.Path.{_≡_}
