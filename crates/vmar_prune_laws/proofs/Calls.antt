@@ -21,11 +21,11 @@ use Rattle.space.proofs.Facts.{region-place, mapping-place, child-in, mapping-i
 use Rattle.vmar_offset.specs.Offset.{freeMapping}
 use Rattle.vmar_doom.specs.Doomed.{isChildIn, Doomed}
 use Rattle.vmar_doom.specs.Doomed as doomed
-use Rattle.vmar_doom.proofs.Dooms.{doomed-lives}
+use Rattle.vmar_doom.proofs.Dooms.{doomed-lives, marked-tells, marked-long}
 use Rattle.vmar_prune.specs.Prune.{splitAt, splitSlot, cutSpace, cutFlags}
 use Rattle.vmar_prune_laws.specs.Cutting.{Cutting}
 use Rattle.vmar_prune_laws.specs.Cut.{Cut}
-use Rattle.vmar_prune_laws.specs.Calls.{END, Marked, Under, child, deeper, Cleared, Destroyed, CallsAll}
+use Rattle.vmar_prune_laws.specs.Calls.{END, Marking, Under, child, deeper, Cleared, Destroyed, CallsAll}
 use Rattle.vmar_prune_laws.proofs.Pieces.{before-most, split-is}
 use Rattle.vmar_prune_laws.proofs.Cuts.{cut-all}
 
@@ -98,7 +98,7 @@ module _ {s : Space} {f : List ℕ} (p : Passes s f) where
       (subst (λ (x : ℕ). getD marks x false ≡ true) (m .2) (all-marked marks closed first n (m .0) (omega arith) (omega arith))))
       (same? _ _)
 
-module _ {s : Space} {f : List ℕ} {marks : List Bool} {r b e : ℕ} (m : Marked s f marks r b e) where
+module _ {s : Space} {f : List ℕ} {marks : List Bool} {r b e : ℕ} (m : Marking s f marks r b e) where
   p : Passes s f
   p = m .passes
 
@@ -164,7 +164,7 @@ module _ {s : Space} {f : List ℕ} {marks : List Bool} {r b e : ℕ} (m : Marke
   }
 
 -- all of a region
-module _ {s : Space} {f : List ℕ} {marks : List Bool} {r : ℕ} (m : Marked s f marks r 0 END) where
+module _ {s : Space} {f : List ℕ} {marks : List Bool} {r : ℕ} (m : Marking s f marks r 0 END) where
   -- nothing is split
   whole : splitSlot s r 0 END < 64 → freeMapping s < 64
   whole l =
@@ -297,6 +297,7 @@ module _ {s : Space} {f : List ℕ} {marks : List Bool} {r : ℕ} (m : Marked s 
 
 pub calls-all : CallsAll
 calls-all = record {
+  marks = λ s f r b e arrays p l a. record { arrays = arrays; passes = p; slot = l; live = a; long = marked-long s r b e p; doomed = marked-tells s r b e p };
   range = λ s f marks r b e m l x y room. range-cut m l x y room;
   stays = λ s f marks r b e m. r-stays m;
   clear = λ s f marks r m. (clear-cut m, cleared m);

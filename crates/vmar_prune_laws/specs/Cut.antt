@@ -33,9 +33,11 @@ pub record RegionsCut (s t : Space) (marks : List Bool) : Type 0 where
 
 -- slot j of t and g holds the address x as slot i of s and f did
 pub record SameAt (s : Space) (f : List ℕ) (i : ℕ) (t : Space) (g : List ℕ) (j x : ℕ) : Type 0 where
+  -- it lives and holds x
   pub slot : j < 64
   pub live : isMapping t j ≡ true
   pub holds : contains (mappingAt t j .addr) (mappingAt t j .size) x ≡ true
+  -- in the same region, of the same VMO, with the same permissions
   pub region : mappingAt t j .region ≡ mappingAt s i .region
   pub vmo : mappingAt t j .vmo ≡ mappingAt s i .vmo
   pub permissions : mappingAt t j .permissions ≡ mappingAt s i .permissions
@@ -59,14 +61,17 @@ pub record MappingsCut (s : Space) (f : List ℕ) (marks : List Bool) (r b e : �
   pub dropped : (j : ℕ) → j < 64 → isMapping t j ≡ true → getD marks (mappingAt t j .region) false ≡ false
   -- nothing is new: each is a part of one of s, in its slot or, the second part of a split, in the lowest that was free
   pub part : (j : ℕ) → j < 64 → isMapping t j ≡ true → (i : ℕ) × Taken s f i t g j × ((j ≡ i) ⊎ ((j ≡ freeMapping s) × (i ≡ splitSlot s r b e)))
+  -- "Lists keep the Rust's order"
   pub list : MapList s t r b e
 
 -- s and f have become t and g
 pub record Cut (s : Space) (f : List ℕ) (marks : List Bool) (r b e : ℕ) (t : Space) (g : List ℕ) : Type 0 where
+  -- t "passes its check", its arrays as long as they were
   pub passes : Passes t g
   pub arrays : Arrays t
   -- ids "never come back"
   pub later : Later s t
+  -- what goes and what stays
   pub regions : RegionsCut s t marks
   pub mappings : MappingsCut s f marks r b e t g
 

@@ -13,6 +13,7 @@ use Rattle.vmar_offset.specs.Offset.{freeMapping}
 use Rattle.vmar_prune.specs.Prune.{splitSlot}
 
 pub record Cutting (s : Space) (f : List ℕ) (marks : List Bool) (r b e : ℕ) : Type 0 where
+  -- s and its flags pass the check
   pub arrays : Arrays s
   pub passes : Passes s f
   -- r lives
