@@ -19,14 +19,19 @@ use Rattle.space.specs.Space.{mappingAt}
 use Rattle.space.specs.declared.Mapping.{Mapping}
 use Rattle.space.specs.declared.Region.{Region}
 use Rattle.space.specs.declared.Space.{Space}
-use Rattle.table_cuts.specs.Cuts.{nonEmpty}
+use Rattle.table_split.specs.Split.{Tables}
+use Rattle.table_cuts.specs.Cuts.{Cut, cutAll, nonEmpty}
 use Rattle.vmar_offset.specs.Offset.{slotOf, isFreeMapping, freeMapping, childMeets}
 use Rattle.vmar_doom.specs.Doomed.{marked}
 use Rattle.vmar_cuts.specs.Cuts.{END, unmapCuts, destroyCuts}
 use Rattle.vmar_prune.specs.Piece.{before, isSplit}
-use Rattle.vmar_prune.specs.Prune.{splits, splitAt, splitSlot}
-use Rattle.vmar_unmap.specs.Unmap.{State, refused, freeFrames, cutState, isPartly, partlyAt, hasDead, lacksSlot, cutRange, inRegion, unmapped, goingWith, cleared, clearedCall}
+use Rattle.vmar_prune.specs.Prune.{splits, splitAt, splitSlot, cutSpace, cutFlags}
+use Rattle.vmar_unmap.specs.Unmap.{State, done, tablesOf, refused, freeFrames, cutState, isPartly, partlyAt, hasDead, lacksSlot, cutRange, inRegion, unmapped, goingWith, cleared, clearedCall}
 use Rattle.vmar_unmap.specs.declared.CutResult.the-variants as result
+
+-- a multiple of 4096 leaves nothing over
+pub whole-pages : (x : ℕ) → multiple x 4096 ≡ true → x % 4096 ≡ 0
+whole-pages x e = eqb-true (x % 4096) 0 e
 
 -- a child that the range meets in part
 pub apart-child : (g : Region) (r b e : ℕ) → childMeets g r b (e - b) ≡ false → false ≡ isPartly g r b e
@@ -170,3 +175,13 @@ module _ (base : ℕ) (st : State) (id : ℕ) (itself : Bool) where
     pub clear-live : (r ≡ 32 → ⊥) → cleared base st r itself ≡ clearedCall base st id itself
     unfolding clearedCall
     clear-live z = rw (i, sym q, ne-eqb r 32 z)
+
+-- a cut, put together
+pub cut-made : (base : ℕ) (st : State) (marks marks′ : List Bool) (cuts : List Cut) (r b e : ℕ) (s : Space) (f p : List ℕ) (u : ℕ)
+    → record { pool = p; used = u } ≡ cutAll (base / 4096) cuts (tablesOf st) → marks ≡ marks′
+    → s ≡ cutSpace (st .space) marks r b e → f ≡ cutFlags (st .space) (st .flags) marks r b e
+    → done (record { result = result.Done; space = s; used = u }) f p ≡ record { result = result.Done; state = cutState base st marks′ cuts r b e }
+cut-made base st marks marks′ cuts r b e s f p u e1 e2 e3 e4 =
+    let e5 = e3 ∙ ap (λ (m : List Bool). cutSpace (st .space) m r b e) e2 in
+    let e6 = e4 ∙ ap (λ (m : List Bool). cutFlags (st .space) (st .flags) m r b e) e2 in
+    λ i. record { result = result.Done; state = record { space = e5 i; flags = e6 i; pool = e1 i .pool; used = e1 i .used } }
