@@ -1,5 +1,5 @@
 -- The calls on a space, whole. Document 01, 'Refusal numbers': "Order: 12, 13, 11, ..", "Only what is taken is tested"; "A refusal gives value 0 and changes nothing
--- anywhere". The cores' definitions (vmar_allocate, vmar_map, vmar_lookup, vmar_user_range) go from 11 on; last, the promises, where 12 and 13 go by Passes and Good.
+-- anywhere". The cores' definitions (vmar_allocate, vmar_map, vmar_unmap, vmar_protect, vmar_lookup, vmar_user_range) go from 11 on; last, the promises, where 12 and 13 go by Passes and Good.
 use Prim.Native.Nat.{ℕ, _/_}
 use mathlib.Core.Path.{_≡_}
 use mathlib.Core.Bool.{Bool, true}
@@ -23,6 +23,10 @@ use Rattle.vmar_map.specs.Map as map
 use Rattle.vmar_lookup.specs.Lookup.{mappingFlags, vaddrFlags}
 use Rattle.vmar_lookup.specs.declared.FlagsResult.{FlagsResult}
 use Rattle.vmar_lookup.specs.declared.FlagsResult.the-variants as flags
+use Rattle.vmar_protect.specs.Protect.{Lent, lent, ProtectDone, protected}
+use Rattle.vmar_protect.specs.Protect as protect
+use Rattle.vmar_unmap.specs.Unmap.{State, CutDone, unmapped, clearedCall}
+use Rattle.vmar_unmap.specs.Unmap as cut
 use Rattle.vmar_user_range.specs.UserRange.{userRange}
 use Rattle.vmar_user_range.specs.declared.UserRangeResult.{UserRangeResult}
 use Rattle.vmar_user_range.specs.declared.UserRangeResult.the-variants as user
@@ -56,6 +60,14 @@ pub record UserRangeDone : Type 0 where
 -- it changes nothing either
 abbrev pub seen : Space → UserRangeResult → UserRangeDone
 seen s r = record { result = r; space = s }
+
+-- the space beside what protect does to flags and pool: its records never change
+pub record ProtectedDone : Type 0 where
+  pub space : Space
+  pub done : ProtectDone
+
+abbrev pub kept : Space → ProtectDone → ProtectedDone
+kept s d = record { space = s; done = d }
 
 -- 11, then "On a dead region lookups give 5", then the lookup
 unfoldable pub flagsCall : Space → List ℕ → ℕ → ℕ → FlagsResult
@@ -92,3 +104,26 @@ module _ (s : Space) (f : List ℕ) where
     abbrev pub VaddrFits : ℕ → ℕ → FlagsDone → Type 0
     VaddrFits id x out =
         Ordered (Passes s f) (Good p base used) (looked s (flags.Refused BadSpace)) (looked s (flags.Refused BadTable)) (looked s (vaddrCall s p base id x)) out
+
+    -- all that a call may change, as it is before
+    abbrev pub before : State
+    before = record { space = s; flags = f; pool = p; used = used }
+
+    -- a call that cuts
+    abbrev pub CutFits : CutDone → CutDone → Type 0
+    CutFits does out = Ordered (Passes s f) (Good p base used) (cut.refused before BadSpace) (cut.refused before BadTable) does out
+
+    abbrev pub UnmapFits : ℕ → ℕ → ℕ → CutDone → Type 0
+    UnmapFits id addr len out = CutFits (unmapped base before id addr len) out
+
+    -- clear, and destroy where the region goes too
+    abbrev pub ClearFits : ℕ → Bool → CutDone → Type 0
+    ClearFits id itself out = CutFits (clearedCall base before id itself) out
+
+    abbrev pub ProtectFits : ℕ → ℕ → ℕ → ℕ → ProtectedDone → Type 0
+    ProtectFits id addr len access out =
+        Ordered (Passes s f) (Good p base used)
+        (kept s (protect.refused (lent f p) BadSpace))
+        (kept s (protect.refused (lent f p) BadTable))
+        (kept s (protected s (lent f p) (base / 4096) id addr len access))
+        out

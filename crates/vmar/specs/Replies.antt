@@ -8,6 +8,10 @@ use Rattle.vmar_map.specs.declared.MapExtResult.{MapExtResult}
 use Rattle.vmar_map.specs.declared.MapExtResult.the-variants as map
 use Rattle.vmar_lookup.specs.declared.FlagsResult.{FlagsResult}
 use Rattle.vmar_lookup.specs.declared.FlagsResult.the-variants as flags
+use Rattle.vmar_unmap.specs.declared.CutResult.{CutResult}
+use Rattle.vmar_unmap.specs.declared.CutResult.the-variants as cut
+use Rattle.vmar_protect.specs.declared.ProtectResult.{ProtectResult}
+use Rattle.vmar_protect.specs.declared.ProtectResult.the-variants as protect
 use Rattle.vmar_user_range.specs.declared.UserRangeResult.{UserRangeResult}
 use Rattle.vmar_user_range.specs.declared.UserRangeResult.the-variants as user
 
@@ -37,3 +41,12 @@ flagsReply (flags.Refused r) = refusal r
 abbrev pub userRangeReply : UserRangeResult → Reply
 userRangeReply user.Allowed = record { number = 0; value = 0 }
 userRangeReply (user.Refused r) = refusal r
+
+-- unmap, destroy and clear have no value; the frames in use stand beside the answer
+abbrev pub cutReply : CutResult → Reply
+cutReply cut.Done = record { number = 0; value = 0 }
+cutReply (cut.Refused r) = refusal r
+
+abbrev pub protectReply : ProtectResult → Reply
+protectReply protect.Protected = record { number = 0; value = 0 }
+protectReply (protect.Refused r) = refusal r

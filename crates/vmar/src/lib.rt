@@ -13,12 +13,15 @@ use vmar_lookup::FlagsResult;
 use vmar_map::MapExtResult;
 use vmar_map::Vmo;
 use vmar_offset::Offset;
+use vmar_protect::ProtectResult;
+use vmar_unmap::CutResult;
 use vmar_user_range::UserRangeResult;
 ghost use mathlib.Core.Path.{_≡_};
+ghost use mathlib.Core.Bool.{true, false};
 ghost use Prim.Native.Nat.{_/_};
 ghost use Rattle.form.specs.Form.{Good};
 ghost use Rattle.space.specs.Passes.{Passes, Passing};
-ghost use Rattle.vmar.specs.Calls.{newSpace, AllocateFits, MapFits, flagsCall, FlagsFit, UserRangeFits, vaddrCall, VaddrFits};
+ghost use Rattle.vmar.specs.Calls.{newSpace, AllocateFits, MapFits, flagsCall, FlagsFit, UserRangeFits, vaddrCall, VaddrFits, UnmapFits, ClearFits, ProtectFits};
 
 const USER_ASPACE_BASE: u64 = 0x20_0000;
 
@@ -54,6 +57,18 @@ pub struct FlagsFound {
 
 pub struct UserRangeChecked {
     pub result: UserRangeResult,
+    pub space: AddressSpace,
+}
+
+// With the frames in use.
+pub struct Cut {
+    pub result: CutResult,
+    pub space: AddressSpace,
+    pub used: usize,
+}
+
+pub struct Protected {
+    pub result: ProtectResult,
     pub space: AddressSpace,
 }
 
@@ -311,6 +326,164 @@ impl AddressSpace {
         }
         let result = vmar_user_range::check_user_range(s, flags, region, addr, len, access);
         UserRangeChecked {
+            result: result,
+            space: self,
+        }
+    }
+
+    // Unmaps what lies in the range of the region, and destroys its children within it.
+    pub fn unmap(
+        self,
+        pages: &mut [u8],
+        pool: &mut [u64],
+        base: u64,
+        used: usize,
+        region: u64,
+        addr: VirtAddr,
+        len: u64,
+    ) -> Cut
+        ensures { λ x. ⌜ UnmapFits (self .space) (now (pages .entry)) (now (pool .entry)) base used region addr len (record { result = x .result; state = record { space = x .space .space; flags = now (pages .exit); pool = now (pool .exit); used = x .used } }) ⌝ }
+    {
+        let s = self.space;
+        if !space_check::is_good(s, pages) {
+            let no = CutResult::Refused(Refusal::BadSpace);
+            return Cut {
+                result: no,
+                space: self,
+                used: used,
+            };
+        }
+        if !form::is_good(pool, base, used) {
+            let no = CutResult::Refused(Refusal::BadTable);
+            return Cut {
+                result: no,
+                space: self,
+                used: used,
+            };
+        }
+        let a = vmar_unmap::unmap(s, pages, pool, base, used, region, addr, len);
+        let result = a.result;
+        let out = a.space;
+        let after = a.used;
+        let space = AddressSpace { space: out };
+        Cut {
+            result: result,
+            space: space,
+            used: after,
+        }
+    }
+
+    // Unmaps all of the region and destroys it and all below it.
+    pub fn destroy(
+        self,
+        pages: &mut [u8],
+        pool: &mut [u64],
+        base: u64,
+        used: usize,
+        region: u64,
+    ) -> Cut
+        ensures { λ x. ⌜ ClearFits (self .space) (now (pages .entry)) (now (pool .entry)) base used region true (record { result = x .result; state = record { space = x .space .space; flags = now (pages .exit); pool = now (pool .exit); used = x .used } }) ⌝ }
+    {
+        let s = self.space;
+        if !space_check::is_good(s, pages) {
+            let no = CutResult::Refused(Refusal::BadSpace);
+            return Cut {
+                result: no,
+                space: self,
+                used: used,
+            };
+        }
+        if !form::is_good(pool, base, used) {
+            let no = CutResult::Refused(Refusal::BadTable);
+            return Cut {
+                result: no,
+                space: self,
+                used: used,
+            };
+        }
+        let a = vmar_unmap::clear(s, pages, pool, base, used, region, true);
+        let result = a.result;
+        let out = a.space;
+        let after = a.used;
+        let space = AddressSpace { space: out };
+        Cut {
+            result: result,
+            space: space,
+            used: after,
+        }
+    }
+
+    // Unmaps all of the region and destroys all below it.
+    pub fn clear(
+        self,
+        pages: &mut [u8],
+        pool: &mut [u64],
+        base: u64,
+        used: usize,
+        region: u64,
+    ) -> Cut
+        ensures { λ x. ⌜ ClearFits (self .space) (now (pages .entry)) (now (pool .entry)) base used region false (record { result = x .result; state = record { space = x .space .space; flags = now (pages .exit); pool = now (pool .exit); used = x .used } }) ⌝ }
+    {
+        let s = self.space;
+        if !space_check::is_good(s, pages) {
+            let no = CutResult::Refused(Refusal::BadSpace);
+            return Cut {
+                result: no,
+                space: self,
+                used: used,
+            };
+        }
+        if !form::is_good(pool, base, used) {
+            let no = CutResult::Refused(Refusal::BadTable);
+            return Cut {
+                result: no,
+                space: self,
+                used: used,
+            };
+        }
+        let a = vmar_unmap::clear(s, pages, pool, base, used, region, false);
+        let result = a.result;
+        let out = a.space;
+        let after = a.used;
+        let space = AddressSpace { space: out };
+        Cut {
+            result: result,
+            space: space,
+            used: after,
+        }
+    }
+
+    // Changes the rights of the pages in the range.
+    pub fn protect(
+        self,
+        pages: &mut [u8],
+        pool: &mut [u64],
+        base: u64,
+        used: usize,
+        region: u64,
+        addr: VirtAddr,
+        len: u64,
+        flags: MMUFlags,
+    ) -> Protected
+        ensures { λ x. ⌜ ProtectFits (self .space) (now (pages .entry)) (now (pool .entry)) base used region addr len (flags .0) (record { space = x .space .space; done = record { result = x .result; flags = now (pages .exit); pool = now (pool .exit) } }) ⌝ }
+    {
+        let s = self.space;
+        if !space_check::is_good(s, pages) {
+            let no = ProtectResult::Refused(Refusal::BadSpace);
+            return Protected {
+                result: no,
+                space: self,
+            };
+        }
+        if !form::is_good(pool, base, used) {
+            let no = ProtectResult::Refused(Refusal::BadTable);
+            return Protected {
+                result: no,
+                space: self,
+            };
+        }
+        let result = vmar_protect::protect(s, pages, pool, base, used, region, addr, len, flags);
+        Protected {
             result: result,
             space: self,
         }
