@@ -167,7 +167,7 @@ fn field_at(line: &[u8], k: usize) -> Field {
 }
 
 // Whether the line is this name and `fields` fields.
-fn is_line(line: &[u8], name: &[u8], fields: usize) -> bool {
+pub fn is_line(line: &[u8], name: &[u8], fields: usize) -> bool {
     let to = end(line, 0);
     if !check::same(&line[..to], name) {
         return false;
@@ -229,7 +229,7 @@ fn unmap(line: &[u8]) -> Line {
     Line::Unmap(vaddr)
 }
 
-fn query(line: &[u8]) -> Line {
+pub fn query(line: &[u8]) -> Line {
     let Field::Number(vaddr) = field_at(line, 1) else {
         return Line::Unreadable;
     };
@@ -255,7 +255,7 @@ fn update_to(line: &[u8], vaddr: u64, paddr: NewAddr) -> Line {
     }
 }
 
-fn map_cont(line: &[u8]) -> Line {
+pub fn map_cont(line: &[u8]) -> Line {
     let Field::Number(vaddr) = field_at(line, 1) else {
         return Line::Unreadable;
     };
@@ -271,7 +271,7 @@ fn map_cont(line: &[u8]) -> Line {
     Line::MapCont(vaddr, size, paddr, MMUFlags(flags))
 }
 
-fn unmap_cont(line: &[u8]) -> Line {
+pub fn unmap_cont(line: &[u8]) -> Line {
     let Field::Number(vaddr) = field_at(line, 1) else {
         return Line::Unreadable;
     };
@@ -332,7 +332,7 @@ pub fn fields_of(line: &[u8]) -> Fields {
 }
 
 // The line, if its fields are in order.
-fn with_fields(line: &[u8], what: What, many: usize) -> Line {
+pub fn with_fields(line: &[u8], what: What, many: usize) -> Line {
     let f = read_fields(line, many);
     if f.is_bad {
         return Line::Unreadable;

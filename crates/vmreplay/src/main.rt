@@ -401,51 +401,6 @@ fn end_line(
     reply(words, pages, text, out, state, trace_line::parse(text))
 }
 
-// Where the line that goes on at `from` ends: at its newline, or with the input.
-fn line_end(input: &[u8], from: usize) -> usize
-    requires { ⌜ from ≤ length (now input) ⌝ }
-    ensures { λ r. ⌜ (from ≤ r) × (r ≤ length (now (input .entry))) ⌝ }
-{
-    let mut i = from;
-    while i < input.len() {
-        if input[i] == b'\n' {
-            return i;
-        }
-        i += 1;
-    }
-    i
-}
-
-// Where the next line begins, once the one that goes on at `from` ends at `to`.
-fn next_line(input: &[u8], from: usize, to: usize) -> usize
-    requires { ⌜ (from < length (now input)) × (from ≤ to) × (to ≤ length (now input)) ⌝ }
-    ensures { λ r. ⌜ (from < r) × (r ≤ length (now (input .entry))) ⌝ }
-{
-    if to < input.len() {
-        return to + 1;
-    }
-    to
-}
-
-// A byte more of the line. One that does not fit is counted and not kept.
-fn put(line: &mut [u8], len: usize, b: u8) -> usize {
-    if len < line.len() {
-        line[len] = b;
-        return len + 1;
-    }
-    line.len() + 1
-}
-
-fn append(line: &mut [u8], len: usize, bytes: &[u8]) -> usize {
-    let mut now = len;
-    let mut i = 0;
-    while i < bytes.len() {
-        now = put(line, now, bytes[i]);
-        i += 1;
-    }
-    now
-}
-
 // Bytes of a line, and whether they end it.
 fn take(
     words: &mut [u64],
@@ -457,7 +412,7 @@ fn take(
     is_end: bool,
 ) -> State {
     let mut after = state;
-    after.len = append(line, state.len, bytes);
+    after.len = trace_input::append(line, state.len, bytes);
     if is_end {
         return end_line(words, pages, line, out, after);
     }
@@ -475,7 +430,7 @@ fn take_all(
     let mut now = state;
     let mut i = 0;
     while i < input.len() {
-        let to = line_end(input, i);
+        let to = trace_input::line_end(input, i);
         now = take(
             words,
             pages,
@@ -485,7 +440,7 @@ fn take_all(
             &input[i..to],
             to < input.len(),
         );
-        i = next_line(input, i, to);
+        i = trace_input::next_line(input, i, to);
     }
     trace_output::flush(out, now.waiting);
     now.waiting = 0;
@@ -510,15 +465,6 @@ fn turn(
     take_all(words, pages, line, out, state, &input[..n])
 }
 
-// How many turns are left after one.
-fn left(turns: u64, is_ended: bool) -> u64
-    requires { ⌜ 0 < turns ⌝ }
-    ensures { λ r. ⌜ r < turns ⌝ }
-{
-    if is_ended { 0 } else { turns - 1 }
-}
-
-// A loop has to end, and nothing says that the input does: this one counts down from more turns than any run has.
 fn read_all(
     words: &mut [u64],
     pages: &mut [u8],
@@ -531,7 +477,7 @@ fn read_all(
     let mut turns = u64::MAX;
     while 0 < turns {
         now = turn(words, pages, line, out, input, now);
-        turns = left(turns, now.is_ended);
+        turns = trace_input::left(turns, now.is_ended);
     }
     now
 }

@@ -3,8 +3,8 @@ use mathlib.Core.Path.{_≡_}
 use Prim.Native.Nat.{_≤_, _-_}
 use lib.ListN.{length}
 use borrow.Author.Needs.{needs}
-use Rattle.vmreplay.proofs.append.Statement.{statement}
-use Rattle.vmreplay.proofs.append.Tie as tie
+use Rattle.trace_input.proofs.append.Statement.{statement}
+use Rattle.trace_input.proofs.append.Tie as tie
 
 abbrev Inv-loop : tie.InvT-loop
 Inv-loop line₀ len bytes now₀ i₀ line now i = (i ≤ length bytes) × (length line ≡ length line₀)
