@@ -1,5 +1,5 @@
 -- What an accepted clear or destroy does.
-use Prim.Native.Nat.{ℕ, _+_, _*_, _/_, _≤_, _<_}
+use Prim.Native.Nat.{ℕ, _+_, _-_, _*_, _/_, _≤_, _<_}
 use mathlib.Core.Path.{_≡_, refl, sym, _∙_, ap, subst}
 use mathlib.Core.Bool.{Bool, true, false}
 use mathlib.Core.List.{List}
@@ -15,11 +15,12 @@ use Rattle.space.specs.Passes.{Passes}
 use Rattle.space.specs.declared.Region.{Region}
 use Rattle.space.specs.declared.Mapping.{Mapping}
 use Rattle.space.specs.declared.Space.{Space}
-use Rattle.space.proofs.Facts.{region-place}
+use Rattle.space.proofs.Facts.{region-place, child-in}
 use Rattle.space.proofs.Ranges.{apart-of}
 use Rattle.table.specs.Table.{queried}
 use Rattle.table_unmap_cont.specs.Demand.{answered}
 use Rattle.table_cuts.specs.Cuts.{nonEmpty}
+use Rattle.vmar_offset.specs.Offset.{testMap}
 use Rattle.vmar_laws.specs.Search.{FreeIn}
 use Rattle.vmar_doom.specs.Doomed.{Doomed, marked}
 use Rattle.vmar_doom.specs.Doomed as doomed
@@ -39,6 +40,7 @@ use Rattle.vmar_unmap.specs.Unmap.{State, tablesOf, freeFrames, goingWith, cutS
 use Rattle.vmar_unmap_laws.specs.Ready.{Ready, KeptAt, GoneAt, RegionsLeft}
 use Rattle.vmar_unmap_laws.specs.Clears.{Emptied, Goes, ClearDone}
 use Rattle.vmar_unmap_laws.proofs.One.{under-lives, one-place, one-holds}
+use Rattle.vmar_unmap_laws.proofs.Tests.{free-tests}
 use Rattle.vmar_unmap_laws.proofs.Left.{address, frames-of, held, other-at, regions-left}
 
 module _ {s : Space} {f : List ℕ} (p : Passes s f) where
@@ -254,6 +256,28 @@ module _ (base : ℕ) (st : State) (R : Ready base st) (r : ℕ) (l : r < 32) (a
         mappings = no-mapping;
       }
 
+      -- nor does a test of the range find it
+      fits : testMap (t .space) q (regionAt s r .addr - regionAt s q .addr) (regionAt s r .size) ≡ true
+      fits =
+          let w = child-in p r q l a (up .slot) refl in
+          let w0 = w .0 in
+          let w1 = w .1 in
+          let from : regionAt (t .space) q .addr ≡ regionAt s q .addr = ap (λ (k : Region). k .addr) same-parent in
+          let size : regionAt (t .space) q .size ≡ regionAt s q .size = ap (λ (k : Region). k .size) same-parent in
+          let at : regionAt s r .addr ≡ regionAt (t .space) q .addr + (regionAt s r .addr - regionAt s q .addr) = omega arith in
+          free-tests (t .space) q (regionAt s r .addr - regionAt s q .addr) (regionAt s r .size) (omega arith) (subst (λ (x : ℕ). FreeIn (t .space) q x (regionAt s r .size)) at free)
+
+    -- clear leaves the region itself
+    pub clear-own : itself ≡ false → regionAt (t .space) r ≡ regionAt s r
+    clear-own y = c .regions .kept r l
+        (⊎-elim
+        (λ (x : getD marks r false ≡ true). absurd
+        (⊎-elim (λ (u : Under s r r). clash (getD (marked s r 0 END) r false) (marks-it r u) (calls-all .stays s (st .flags) (marked s r 0 END) r 0 END m))
+        (λ (z : (itself ≡ true) × (r ≡ r)). clash itself (z .0) y)
+        (going itself r l x)))
+        (λ (x : getD marks r false ≡ false). x)
+        (tell (getD marks r false)))
+
     pub clear-done : ClearDone base st t r itself
     clear-done = record {
       ready = record { arrays = c .arrays; passes = c .passes; good = leaves .all .good };
@@ -264,6 +288,7 @@ module _ (base : ℕ) (st : State) (R : Ready base st) (r : ℕ) (l : r < 32) (a
       clear = clears itself;
       destroy = destroys itself;
       free = free;
+      fits = fits;
       space = c;
       table = leaves;
     }

@@ -6,10 +6,10 @@ use mathlib.Core.List.{List}
 use mathlib.Core.Logic.{_⊎_, inl, inr, ⊎-elim}
 use native.Mathlib.Omega.{arith}
 use lib.ListN.{getD}
-use borrow.Author.Tests.{not-true}
+use borrow.Author.Tests.{not-true, eq-eqb}
 use Rattle.paging.specs.Level.{Canonical}
-use Rattle.paging.proofs.Cases.{no-truth}
-use Rattle.scan.proofs.Scans.{tell}
+use Rattle.paging.proofs.Cases.{clash, no-truth}
+use Rattle.scan.proofs.Scans.{tell, before-first}
 use Rattle.space.specs.Space.{regionAt, mappingAt, isRegion, isMapping, regionPlace}
 use Rattle.space.specs.Passes.{Passes, pageAt}
 use Rattle.space.specs.Range.{contains}
@@ -20,14 +20,15 @@ use Rattle.space.proofs.Facts.{region-place}
 use Rattle.space.proofs.Ranges.{holds-of}
 use Rattle.table_cuts.specs.Cuts as table
 use Rattle.table_cuts.specs.Laws.{AllCut}
-use Rattle.vmar_offset.specs.Offset.{slotOf}
+use Rattle.vmar_offset.specs.Offset.{hasId, idAt, slotOf}
+use Rattle.vmar_offset.proofs.Found.{slot-live}
 use Rattle.vmar_laws.specs.Later.{Later}
 use Rattle.vmar_cuts.specs.Laws.{Lies}
 use Rattle.vmar_cuts.proofs.Parts.{mapping-fits}
 use Rattle.vmar_prune_laws.specs.Order.{InOrder}
 use Rattle.vmar_prune_laws.specs.Cut.{Cut, SameAt}
 use Rattle.vmar_unmap.specs.Unmap.{State, tablesOf, freeFrames}
-use Rattle.vmar_unmap_laws.specs.Ready.{Ready, Frames, RegionsLeft}
+use Rattle.vmar_unmap_laws.specs.Ready.{Frames, RegionsLeft, Same}
 use Rattle.vmar_unmap_laws.proofs.One.{one-holds}
 
 -- an address of a mapping is one of the table
@@ -48,6 +49,23 @@ frames-of base st t cs c l = record {
   there = c .good .sized .there;
   long = c .long;
 }
+
+-- a region of this id is found
+has-id : (g : Region) (id : ℕ) → g .live ≡ true → g .id ≡ id → hasId g id ≡ true
+unfolding hasId
+has-id g id a q = rw (a, eq-eqb (g .id) id q)
+
+-- one that is as it was is found where it was
+pub same-slot : (s t : Space) (id : ℕ) → Later s t → id < s .nextid → (slotOf s id ≡ 32 → ⊥) → regionAt t (slotOf s id) ≡ regionAt s (slotOf s id) → Same s t id
+same-slot s t id later i n q =
+    let h = slot-live s id n in
+    ⊎-elim
+    (λ (z : slotOf t id ≡ 32).
+    let l = h .0 in
+    clash (idAt t id (slotOf s id)) (subst (λ (g : Region). hasId g id ≡ true) (sym q) (has-id (regionAt s (slotOf s id)) id (h .1) (h .2)))
+    (before-first (idAt t id) 32 (slotOf s id) (omega arith)))
+    (λ (z : Same s t id). z)
+    (later .same id i (h .0))
 
 module _ {s : Space} {f : List ℕ} (p : Passes s f) {marks : List Bool} {r b e : ℕ} {t : Space} {g : List ℕ} (c : Cut s f marks r b e t g) where
   -- an address is held in the region that held it

@@ -24,15 +24,16 @@ use Rattle.vmar_unmap.specs.Unmap.{State, CutDone, refused, freeFrames, partlyA
 use Rattle.vmar_unmap.specs.declared.CutResult.{CutResult}
 use Rattle.vmar_unmap.specs.declared.CutResult.the-variants as result
 use Rattle.vmar_unmap.proofs.Calls.{whole-pages, has-slot, range-partly, range-short, range-frames, range-cut, in-dead, in-over, in-range, unmap-unissued, unmap-odd, unmap-odd-length, unmap-nothing, unmap-some}
-use Rattle.vmar_unmap_laws.specs.Ready.{Ready}
+use Rattle.vmar_unmap_laws.specs.Ready.{Ready, Same}
 use Rattle.vmar_unmap_laws.specs.Unmaps.{WholePages, Asked, Takes, UnmapAnswers, unissued, odd, dead, over, partly, short, frames, done, UnmapDone, UnmapsAll}
+use Rattle.vmar_unmap_laws.proofs.Left.{same-slot}
 use Rattle.vmar_unmap_laws.proofs.Tests.{none-dead, some-partly, no-partly, partly-some, partly-none, short-is, short-of, short-none, no-short}
-use Rattle.vmar_unmap_laws.proofs.Unmap.{unmap-done}
+use Rattle.vmar_unmap_laws.proofs.Unmap.{unmap-own, unmap-done}
 
 -- how a call ends: refused, or the range cut out
 data Ends (base : ℕ) (st : State) (id addr len : ℕ) : CutDone → Type 0 where
   refusal : (why : Refusal) → UnmapAnswers st id addr len (result.Refused why) → Ends base st id addr len (refused st why)
-  accepts : (t : State) → UnmapAnswers st id addr len result.Done → UnmapDone base st t (slotOf (st .space) id) addr (addr + len)
+  accepts : (t : State) → UnmapAnswers st id addr len result.Done → UnmapDone base st t (slotOf (st .space) id) addr (addr + len) → Same (st .space) (t .space) id
       → Ends base st id addr len (record { result = result.Done; state = t })
 
 done-refused : {A : Type 0} {why : Refusal} → _≡_ {A = CutResult} result.Done (result.Refused why) → A
@@ -77,13 +78,15 @@ module _ (base : ℕ) (st : State) (R : Ready base st) (id addr len : ℕ) where
       let takes : Takes s r addr e = record { whole = no-partly s r addr e order p; slots = no-short s r addr e order z } in
       ⊎-elim
       (λ (n : leb (4 * nonEmpty (unmapCuts s r addr e)) (freeFrames st) ≡ true).
-      let home = slot-live s id (λ q. let l = A .live in omega arith) in
+      let still : (r ≡ 32 → ⊥) = λ q. let l = A .live in omega arith in
+      let home = slot-live s id still in
       let x = A .pages .0 in
       let y = A .pages .1 in
       let P : PageRange addr e = record { order = order; begin = x; end = omega arith } in
+      let cut = unmap-done base st R r addr e (home .0) (home .1) P (has-slot s r addr e z) (leb-true _ _ n) in
       subst E (range-cut base st r addr e (lacksSlot s r addr e) p none z n)
       (accepts (cutState base st (marked s r addr e) (unmapCuts s r addr e) r addr e) (done A takes (leb-true _ _ n))
-      (unmap-done base st R r addr e (home .0) (home .1) P (has-slot s r addr e z) (leb-true _ _ n))))
+      cut (same-slot s _ id (cut .space .later) (A .issued) still (unmap-own base st R r addr e (home .0) (home .1) P (has-slot s r addr e z) (leb-true _ _ n)))))
       (λ (n : leb (4 * nonEmpty (unmapCuts s r addr e)) (freeFrames st) ≡ false).
       subst E (range-frames base st r addr e (lacksSlot s r addr e) p none z n) (refusal NoFrames (frames A takes (leb-false _ _ n))))
       (tell (leb (4 * nonEmpty (unmapCuts s r addr e)) (freeFrames st))))
@@ -130,19 +133,23 @@ module _ (base : ℕ) (st : State) (R : Ready base st) (id addr len : ℕ) where
 
   nothing-changes : {out : CutDone} → E out → (why : Refusal) → out .result ≡ result.Refused why → out .state ≡ st
   nothing-changes (refusal w x) why q = refl
-  nothing-changes (accepts t x d) why q = done-refused q
+  nothing-changes (accepts t x d o) why q = done-refused q
 
   does : {out : CutDone} → E out → out .result ≡ result.Done → UnmapDone base st (out .state) r addr e
   does (refusal w x) q = done-refused (sym q)
-  does (accepts t x d) q = d
+  does (accepts t x d o) q = d
 
   later : {out : CutDone} → E out → Later s (out .state .space)
   later (refusal w x) = later-none s
-  later (accepts t x d) = d .space .later
+  later (accepts t x d o) = d .space .later
+
+  stays : {out : CutDone} → E out → Same s (out .state .space) id
+  stays (refusal w x) = (refl, refl)
+  stays (accepts t x d o) = o
 
   answers : {out : CutDone} → E out → UnmapAnswers st id addr len (out .result)
   answers (refusal w x) = x
-  answers (accepts t x d) = x
+  answers (accepts t x d o) = x
 
   -- no second answer fits
   abbrev Is : CutResult → Type 0
@@ -189,6 +196,7 @@ unmaps = record {
     refused = nothing-changes base st R id addr len (ends base st R id addr len);
     accepted = does base st R id addr len (ends base st R id addr len);
     later = later base st R id addr len (ends base st R id addr len);
+    stays = stays base st R id addr len (ends base st R id addr len);
     answers = answers base st R id addr len (ends base st R id addr len);
     only = only base st R id addr len;
   };

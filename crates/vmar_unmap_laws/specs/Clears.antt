@@ -1,7 +1,7 @@
 -- What `clear` and `destroy` on a space and a pool that pass their checks mean. Document 01: "A refusal gives value 0 and changes nothing anywhere"; "Region ids .. never come
 -- back within a space", "An id once issued whose region is gone is 5"; "Slots of destroyed regions and dropped mappings are used again"; "four free frames for each non-empty
 -- mapping it will cut or drop, those in destroyed children included; otherwise 8".
-use Prim.Native.Nat.{ℕ, _*_, _≤_, _<_}
+use Prim.Native.Nat.{ℕ, _-_, _*_, _≤_, _<_}
 use mathlib.Core.Path.{_≡_}
 use mathlib.Core.Bool.{Bool, true, false}
 use mathlib.Core.Logic.{_⊎_}
@@ -10,7 +10,7 @@ use Rattle.refusal.specs.declared.Refusal.the-variants.{BadState, NoFrames, Bad
 use Rattle.table_cuts.specs.Cuts.{nonEmpty}
 use Rattle.space.specs.Space.{regionAt, mappingAt, isMapping, noRegion}
 use Rattle.space.specs.declared.Space.{Space}
-use Rattle.vmar_offset.specs.Offset.{slotOf}
+use Rattle.vmar_offset.specs.Offset.{slotOf, testMap}
 use Rattle.vmar_laws.specs.Later.{Later}
 use Rattle.vmar_laws.specs.Search.{FreeIn}
 use Rattle.vmar_cuts.specs.Cuts.{END, destroyCuts}
@@ -20,7 +20,7 @@ use Rattle.vmar_prune_laws.specs.Calls.{Under, Cleared, Destroyed}
 use Rattle.vmar_unmap.specs.Unmap.{State, tablesOf, freeFrames, goingWith, clearedCall}
 use Rattle.vmar_unmap.specs.declared.CutResult.{CutResult}
 use Rattle.vmar_unmap.specs.declared.CutResult.the-variants as result
-use Rattle.vmar_unmap_laws.specs.Ready.{Ready, Frames, KeptAt, GoneAt, RegionsLeft}
+use Rattle.vmar_unmap_laws.specs.Ready.{Ready, Frames, KeptAt, GoneAt, RegionsLeft, Same}
 
 -- the regions whose mappings are dropped: r and all below it
 abbrev pub Emptied : Space → ℕ → ℕ → Type 0
@@ -57,6 +57,9 @@ pub record ClearDone (base : ℕ) (st t : State) (r : ℕ) (itself : Bool) : Typ
   pub destroy : itself ≡ true → Destroyed (st .space) (t .space) r
   pub free : itself ≡ true → (regionAt (st .space) r .parent ≡ noRegion → ⊥)
       → FreeIn (t .space) (regionAt (st .space) r .parent) (regionAt (st .space) r .addr) (regionAt (st .space) r .size)
+  -- an allocate may ask for them
+  pub fits : itself ≡ true → (regionAt (st .space) r .parent ≡ noRegion → ⊥)
+      → testMap (t .space) (regionAt (st .space) r .parent) (regionAt (st .space) r .addr - regionAt (st .space) (regionAt (st .space) r .parent) .addr) (regionAt (st .space) r .size) ≡ true
   -- what else a cut does to a space and its page flags: nothing is new, lists keep their order
   pub space : prune.Cut (st .space) (st .flags) (goingWith (st .space) r itself) r 0 END (t .space) (t .flags)
   -- what else the cuts do to the table: no other address changes
@@ -69,6 +72,9 @@ pub record Clears (base : ℕ) (st : State) (id : ℕ) (itself : Bool) : Type 0 
   pub accepted : clearedCall base st id itself .result ≡ result.Done → ClearDone base st (clearedCall base st id itself .state) (slotOf (st .space) id) itself
   -- ids "never come back", refused or not
   pub later : Later (st .space) (clearedCall base st id itself .state .space)
+  -- a region that was destroyed is 5 for ever; one that was cleared has its id and is as it was
+  pub gone : itself ≡ true → clearedCall base st id itself .result ≡ result.Done → (u : Space) → Later (clearedCall base st id itself .state .space) u → slotOf u id ≡ 32
+  pub stays : itself ≡ false → Same (st .space) (clearedCall base st id itself .state .space) id
   -- what the call answers, and no second answer fits
   pub answers : ClearAnswers st id (clearedCall base st id itself .result)
   pub only : (x : CutResult) → ClearAnswers st id x → x ≡ clearedCall base st id itself .result

@@ -65,3 +65,7 @@ pub record RegionsLeft (s t : Space) (Goes : ℕ → Type 0) : Type 0 where
   pub dead : (i : ℕ) → Goes i → (u : Space) → Later t u → slotOf u (regionAt s i .id) ≡ 32
   -- "Lists keep the Rust's order"
   pub list : InOrder (isRegion t) (s .reglist) (s .regcount) (t .reglist) (t .regcount)
+
+-- the region of this id is as it was, in its slot
+abbrev pub Same : Space → Space → ℕ → Type 0
+Same s t id = (slotOf t id ≡ slotOf s id) × (regionAt t (slotOf s id) ≡ regionAt s (slotOf s id))

@@ -19,7 +19,7 @@ use Rattle.vmar_prune_laws.specs.Cut as prune
 use Rattle.vmar_unmap.specs.Unmap.{State, tablesOf, freeFrames, unmapped}
 use Rattle.vmar_unmap.specs.declared.CutResult.{CutResult}
 use Rattle.vmar_unmap.specs.declared.CutResult.the-variants as result
-use Rattle.vmar_unmap_laws.specs.Ready.{Ready, Frames, KeptAt, GoneAt, RegionsLeft}
+use Rattle.vmar_unmap_laws.specs.Ready.{Ready, Frames, KeptAt, GoneAt, RegionsLeft, Same}
 
 -- whole pages, and not none
 abbrev pub WholePages : ℕ → ℕ → Type 0
@@ -97,6 +97,8 @@ pub record Unmaps (base : ℕ) (st : State) (id addr len : ℕ) : Type 0 where
       → UnmapDone base st (unmapped base st id addr len .state) (slotOf (st .space) id) addr (addr + len)
   -- ids "never come back", refused or not
   pub later : Later (st .space) (unmapped base st id addr len .state .space)
+  -- the region itself has its id and is as it was
+  pub stays : Same (st .space) (unmapped base st id addr len .state .space) id
   -- what the call answers, and no second answer fits
   pub answers : UnmapAnswers st id addr len (unmapped base st id addr len .result)
   pub only : (x : CutResult) → UnmapAnswers st id addr len x → x ≡ unmapped base st id addr len .result
