@@ -1,24 +1,24 @@
 -- The laws of clear and destroy.
-use Prim.Native.Nat.{ℕ, _+_, _*_, _≤_, _<_}
+use Prim.Native.Nat.{ℕ, _*_}
 use mathlib.Core.Path.{_≡_, refl, sym, _∙_, ap, subst}
 use mathlib.Core.Bool.{Bool, true, false}
-use mathlib.Core.Logic.{_⊎_, inl, inr, ⊎-elim}
+use mathlib.Core.Logic.{inr, ⊎-elim}
 use native.Mathlib.Omega.{arith}
-use lib.Dec.{leb, ltb, eqb}
-use borrow.Author.Tests.{ltb-true, ltb-false, lt-ltb, le-ltb, leb-true, leb-false, le-leb, lt-leb, eqb-true, eqb-false}
+use lib.Dec.{leb, ltb}
+use borrow.Author.Tests.{ltb-true, ltb-false, lt-ltb, le-ltb, leb-true, leb-false, le-leb, lt-leb}
 use Rattle.paging.proofs.Cases.{same?}
-use Rattle.scan.proofs.Scans.{tell, first-most}
+use Rattle.scan.proofs.Scans.{tell}
 use Rattle.refusal.specs.declared.Refusal.{Refusal}
 use Rattle.refusal.specs.declared.Refusal.the-variants.{BadState, NoFrames, BadHandle}
 use Rattle.space.specs.Space.{regionAt}
 use Rattle.space.specs.declared.Space.{Space}
 use Rattle.table_cuts.specs.Cuts.{nonEmpty}
-use Rattle.vmar_offset.specs.Offset.{idAt, slotOf}
+use Rattle.vmar_offset.specs.Offset.{slotOf}
 use Rattle.vmar_offset.proofs.Found.{slot-live}
 use Rattle.vmar_laws.specs.Later.{Later}
 use Rattle.vmar_laws.proofs.Later.{later-none}
 use Rattle.vmar_cuts.specs.Cuts.{END, destroyCuts}
-use Rattle.vmar_unmap.specs.Unmap.{State, CutDone, refused, freeFrames, goingWith, cutState, cleared, clearedCall}
+use Rattle.vmar_unmap.specs.Unmap.{State, CutDone, refused, freeFrames, goingWith, cutState, clearedCall}
 use Rattle.vmar_unmap.specs.declared.CutResult.{CutResult}
 use Rattle.vmar_unmap.specs.declared.CutResult.the-variants as result
 use Rattle.vmar_unmap.proofs.Calls.{clear-frames, clear-cut, clear-unissued, clear-gone, clear-live}

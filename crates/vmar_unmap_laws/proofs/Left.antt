@@ -1,16 +1,16 @@
 -- What every cut leaves, from the laws of its parts.
 use Prim.Native.Nat.{ℕ, _+_, _-_, _*_, _/_, _≤_, _<_}
-use mathlib.Core.Path.{_≡_, refl, sym, _∙_, ap, subst}
+use mathlib.Core.Path.{_≡_, sym, _∙_, ap, subst}
 use mathlib.Core.Bool.{Bool, true, false, not}
 use mathlib.Core.List.{List}
-use mathlib.Core.Logic.{_⊎_, inl, inr, ⊎-elim}
+use mathlib.Core.Logic.{inl, inr, ⊎-elim}
 use native.Mathlib.Omega.{arith}
 use lib.ListN.{getD}
 use borrow.Author.Tests.{not-true, eq-eqb}
 use Rattle.paging.specs.Level.{Canonical}
 use Rattle.paging.proofs.Cases.{clash, no-truth}
 use Rattle.scan.proofs.Scans.{tell, before-first}
-use Rattle.space.specs.Space.{regionAt, mappingAt, isRegion, isMapping, regionPlace}
+use Rattle.space.specs.Space.{regionAt, mappingAt, isRegion, regionPlace}
 use Rattle.space.specs.Passes.{Passes, pageAt}
 use Rattle.space.specs.Range.{contains}
 use Rattle.space.specs.declared.Region.{Region}

@@ -6,11 +6,11 @@ use mathlib.Core.List.{List}
 use mathlib.Core.Logic.{_⊎_, inl, inr, ⊎-elim}
 use native.Mathlib.Omega.{arith}
 use Rattle.paging.proofs.Cases.{same?, below?}
-use Rattle.space.specs.Space.{regionAt, mappingAt, isRegion, isMapping, regionPlace}
+use Rattle.space.specs.Space.{regionAt, mappingAt, isRegion, regionPlace}
 use Rattle.space.specs.Passes.{Passes}
 use Rattle.space.specs.declared.Space.{Space}
 use Rattle.space.proofs.Facts.{region-place, child-in, mapping-in}
-use Rattle.vmar_cuts.specs.Laws.{Off, Lies}
+use Rattle.vmar_cuts.specs.Laws.{Lies}
 use Rattle.vmar_cuts.proofs.Apart.{mappings-off, regions-off, both-off}
 use Rattle.vmar_prune_laws.specs.Calls.{Under, child, deeper}
 

@@ -1,18 +1,17 @@
 -- What the tests of the calls say of a space that passes its check.
 use Prim.Native.Nat.{ℕ, zero, suc, _+_, _-_, _≤_, _<_}
-use mathlib.Core.Path.{_≡_, refl, sym, _∙_, ap, subst}
-use mathlib.Core.Bool.{Bool, true, false, not}
+use mathlib.Core.Path.{_≡_}
+use mathlib.Core.Bool.{Bool, true, false}
 use mathlib.Core.List.{List}
-use mathlib.Core.Logic.{_⊎_, inl, inr, ⊎-elim}
+use mathlib.Core.Logic.{⊎-elim}
 use native.Mathlib.Omega.{arith}
 use lib.Dec.{eqb, ltb}
 use borrow.Author.Tests.{le-leb, ltb-true, lt-ltb, eqb-true, eq-eqb, not-true, not-false}
-use Rattle.paging.specs.Choice.{pick}
-use Rattle.paging.proofs.Cases.{same?, below?, no-truth, clash}
+use Rattle.paging.proofs.Cases.{below?, no-truth, clash}
 use Rattle.scan.specs.Scan.{someOf, some}
 use Rattle.scan.proofs.Scans.{tell, none-passes, first-passes, first-most, before-first}
 use Rattle.space.specs.Range.{overlap, inside}
-use Rattle.space.specs.Space.{regionAt, mappingAt, isRegion, isMapping, regionPlace}
+use Rattle.space.specs.Space.{regionAt, mappingAt, isRegion, regionPlace}
 use Rattle.space.specs.Passes.{Passes}
 use Rattle.space.specs.declared.Region.{Region}
 use Rattle.space.specs.declared.Mapping.{Mapping}
@@ -22,7 +21,7 @@ use Rattle.space.proofs.Ranges.{inner, inner-of}
 use Rattle.vmar_offset.specs.Offset.{isFreeMapping, freeMapping, childMeets, mappingMeets, meetsChild, meetsMapping, testMap}
 use Rattle.vmar_laws.specs.Search.{FreeIn}
 use Rattle.vmar_cuts.proofs.Parts.{overlaps, overlap-of, meets}
-use Rattle.vmar_prune.specs.Prune.{splits, splitAt, splitSlot}
+use Rattle.vmar_prune.specs.Prune.{splitAt, splitSlot}
 use Rattle.vmar_prune_laws.proofs.Pieces.{before-most, before-least, after-most, after-least, split-is, split-of}
 use Rattle.vmar_unmap.specs.Unmap.{isPartly, partlyAt, deadAt, hasDead, lacksSlot}
 use Rattle.vmar_unmap_laws.specs.Unmaps.{Partly, Short}

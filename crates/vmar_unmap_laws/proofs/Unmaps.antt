@@ -1,10 +1,10 @@
 -- The laws of unmap.
-use Prim.Native.Nat.{ℕ, _+_, _*_, _%_, _^_, _≤_, _<_}
+use Prim.Native.Nat.{ℕ, _+_, _*_, _≤_, _<_}
 use mathlib.Core.Path.{_≡_, refl, sym, _∙_, ap, subst}
-use mathlib.Core.Bool.{Bool, true, false}
-use mathlib.Core.Logic.{_⊎_, inl, inr, ⊎-elim}
+use mathlib.Core.Bool.{true, false}
+use mathlib.Core.Logic.{⊎-elim}
 use native.Mathlib.Omega.{arith}
-use lib.Dec.{leb, ltb, eqb}
+use lib.Dec.{leb, ltb}
 use borrow.Author.Tests.{ltb-true, ltb-false, lt-ltb, le-ltb, leb-true, leb-false, le-leb, lt-leb, eq-eqb}
 use Rattle.paging.proofs.Cases.{same?, clash}
 use Rattle.scan.specs.Scan.{some}
@@ -20,7 +20,7 @@ use Rattle.vmar_laws.specs.Later.{Later}
 use Rattle.vmar_laws.proofs.Later.{later-none}
 use Rattle.vmar_doom.specs.Doomed.{marked}
 use Rattle.vmar_cuts.specs.Cuts.{unmapCuts, PageRange}
-use Rattle.vmar_unmap.specs.Unmap.{State, CutDone, refused, freeFrames, partlyAt, hasDead, lacksSlot, cutState, cutRange, inRegion, unmapped}
+use Rattle.vmar_unmap.specs.Unmap.{State, CutDone, refused, freeFrames, partlyAt, lacksSlot, cutState, cutRange, inRegion, unmapped}
 use Rattle.vmar_unmap.specs.declared.CutResult.{CutResult}
 use Rattle.vmar_unmap.specs.declared.CutResult.the-variants as result
 use Rattle.vmar_unmap.proofs.Calls.{whole-pages, has-slot, range-partly, range-short, range-frames, range-cut, in-dead, in-over, in-range, unmap-unissued, unmap-odd, unmap-odd-length, unmap-nothing, unmap-some}

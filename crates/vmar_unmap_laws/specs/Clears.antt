@@ -8,7 +8,7 @@ use mathlib.Core.Logic.{_⊎_}
 use Rattle.refusal.specs.declared.Refusal.{Refusal}
 use Rattle.refusal.specs.declared.Refusal.the-variants.{BadState, NoFrames, BadHandle}
 use Rattle.table_cuts.specs.Cuts.{nonEmpty}
-use Rattle.space.specs.Space.{regionAt, mappingAt, isMapping, noRegion}
+use Rattle.space.specs.Space.{regionAt, mappingAt, noRegion}
 use Rattle.space.specs.declared.Space.{Space}
 use Rattle.vmar_offset.specs.Offset.{slotOf, testMap}
 use Rattle.vmar_laws.specs.Later.{Later}
