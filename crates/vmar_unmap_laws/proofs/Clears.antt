@@ -9,7 +9,7 @@ use borrow.Author.Tests.{ltb-true, ltb-false, lt-ltb, le-ltb, leb-true, leb-fals
 use Rattle.paging.proofs.Cases.{same?}
 use Rattle.scan.proofs.Scans.{tell}
 use Rattle.refusal.specs.declared.Refusal.{Refusal}
-use Rattle.refusal.specs.declared.Refusal.the-variants.{BadState, NoFrames, BadHandle}
+use Rattle.refusal.specs.declared.Refusal.the-variants.{BadState, NoFrames, BadHandle, ChildDead}
 use Rattle.space.specs.Space.{regionAt}
 use Rattle.space.specs.declared.Space.{Space}
 use Rattle.table_cuts.specs.Cuts.{nonEmpty}
@@ -99,6 +99,13 @@ module _ (base : ℕ) (st : State) (R : Ready base st) (id : ℕ) (itself : Bool
       ap (λ (d : CutDone). d .result)
       (clear-cut base st r itself (none-dead (R .passes)) (le-leb _ _ n) ∙ clear-live base st id itself (lt-ltb _ _ h) r refl (λ z. omega arith))
 
+  -- no answer is 14
+  alive : {x : CutResult} → ClearAnswers st id x → x ≡ result.Refused ChildDead → ⊥
+  alive (unissued h) q = let z : _≡_ {A = ℕ} 0 1 = cc in omega arith
+  alive (dead h z) q = let z : _≡_ {A = ℕ} 0 1 = cc in omega arith
+  alive (frames h l n) q = let z : _≡_ {A = ℕ} 0 1 = cc in omega arith
+  alive (done h l n) q = let z : _≡_ {A = ℕ} 0 1 = cc in omega arith
+
 pub clears : ClearsAll
 clears = record {
   holds = λ base st R id itself. record {
@@ -109,5 +116,6 @@ clears = record {
     stays = stays base st R id itself (ends base st R id itself);
     answers = answers base st R id itself (ends base st R id itself);
     only = only base st R id itself;
+    alive = alive base st R id itself (answers base st R id itself (ends base st R id itself));
   };
 }

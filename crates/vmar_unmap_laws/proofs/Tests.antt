@@ -24,6 +24,7 @@ use Rattle.vmar_cuts.proofs.Parts.{overlaps, overlap-of, meets}
 use Rattle.vmar_prune.specs.Prune.{splitAt, splitSlot}
 use Rattle.vmar_prune_laws.proofs.Pieces.{before-most, before-least, after-most, after-least, split-is, split-of}
 use Rattle.vmar_unmap.specs.Unmap.{isPartly, partlyAt, deadAt, hasDead, lacksSlot}
+use Rattle.vmar_unmap_laws.specs.Ready.{NeverDead}
 use Rattle.vmar_unmap_laws.specs.Unmaps.{Partly, Short}
 
 -- where some index passes, here is one
@@ -47,6 +48,9 @@ none-dead {s} p =
     (λ (d : hasDead s ≡ true). let k = one-passes (deadAt s) (s .regcount) d in clash (isRegion s (regionPlace s (k .0))) (region-place p (k .0) (k .1) .1) (not-true _ (k .2)))
     (λ (d : hasDead s ≡ false). d)
     (tell (hasDead s))
+
+pub never-dead : NeverDead
+never-dead = record { holds = λ s f p. none-dead p }
 
 -- a child that the range meets in part
 partly-parts : (g : Region) (r b e : ℕ) → isPartly g r b e ≡ true → (childMeets g r b (e - b) ≡ true) × (inside (g .addr) (g .size) b (e - b) ≡ false)

@@ -11,7 +11,7 @@ use Rattle.scan.specs.Scan.{some}
 use Rattle.scan.proofs.Scans.{tell}
 use Rattle.vm.specs.Align.{multiple}
 use Rattle.refusal.specs.declared.Refusal.{Refusal}
-use Rattle.refusal.specs.declared.Refusal.the-variants.{InvalidArgs, BadState, NoFrames, NoSlot, BadHandle}
+use Rattle.refusal.specs.declared.Refusal.the-variants.{InvalidArgs, BadState, NoFrames, NoSlot, BadHandle, ChildDead}
 use Rattle.space.specs.declared.Space.{Space}
 use Rattle.table_cuts.specs.Cuts.{nonEmpty}
 use Rattle.vmar_offset.specs.Offset.{slotOf}
@@ -190,6 +190,17 @@ module _ (base : ℕ) (st : State) (R : Ready base st) (id addr len : ℕ) where
       is (range-cut base st r addr e (lacksSlot s r addr e) (partly-none s r addr e order (k .whole)) (none-dead (R .passes)) (short-none s r addr e order (k .slots))
       (le-leb _ _ n) ∙ to-range A)
 
+  -- no answer is 14
+  alive : {x : CutResult} → UnmapAnswers st id addr len x → x ≡ result.Refused ChildDead → ⊥
+  alive (unissued h) q = let z : _≡_ {A = ℕ} 0 1 = cc in omega arith
+  alive (odd h n) q = let z : _≡_ {A = ℕ} 0 1 = cc in omega arith
+  alive (dead h w z) q = let z : _≡_ {A = ℕ} 0 1 = cc in omega arith
+  alive (over h w l n) q = let z : _≡_ {A = ℕ} 0 1 = cc in omega arith
+  alive (partly A i k) q = let z : _≡_ {A = ℕ} 0 1 = cc in omega arith
+  alive (short A n i k) q = let z : _≡_ {A = ℕ} 0 1 = cc in omega arith
+  alive (frames A k n) q = let z : _≡_ {A = ℕ} 0 1 = cc in omega arith
+  alive (done A k n) q = let z : _≡_ {A = ℕ} 0 1 = cc in omega arith
+
 pub unmaps : UnmapsAll
 unmaps = record {
   holds = λ base st R id addr len. record {
@@ -199,5 +210,6 @@ unmaps = record {
     stays = stays base st R id addr len (ends base st R id addr len);
     answers = answers base st R id addr len (ends base st R id addr len);
     only = only base st R id addr len;
+    alive = alive base st R id addr len (answers base st R id addr len (ends base st R id addr len));
   };
 }

@@ -6,7 +6,7 @@ use mathlib.Core.Path.{_≡_}
 use mathlib.Core.Bool.{Bool, true, false}
 use mathlib.Core.Logic.{_⊎_}
 use Rattle.refusal.specs.declared.Refusal.{Refusal}
-use Rattle.refusal.specs.declared.Refusal.the-variants.{BadState, NoFrames, BadHandle}
+use Rattle.refusal.specs.declared.Refusal.the-variants.{BadState, NoFrames, BadHandle, ChildDead}
 use Rattle.table_cuts.specs.Cuts.{nonEmpty}
 use Rattle.space.specs.Space.{regionAt, mappingAt, noRegion}
 use Rattle.space.specs.declared.Space.{Space}
@@ -30,7 +30,7 @@ Emptied s r i = (i ≡ r) ⊎ Under s r i
 abbrev pub Goes : Space → ℕ → Bool → ℕ → Type 0
 Goes s r itself i = Under s r i ⊎ ((itself ≡ true) × (i ≡ r))
 
--- what the call answers: 11, 5, 8 or success, in this order. It is never 14: "every listed child is alive".
+-- what the call answers: 11, 5, 8 or success, in this order. It is never 14.
 pub data ClearAnswers (st : State) (id : ℕ) : CutResult → Type 0 where
   unissued : st .space .nextid ≤ id → ClearAnswers st id (result.Refused BadHandle)
   dead : id < st .space .nextid → slotOf (st .space) id ≡ 32 → ClearAnswers st id (result.Refused BadState)
@@ -78,6 +78,8 @@ pub record Clears (base : ℕ) (st : State) (id : ℕ) (itself : Bool) : Type 0 
   -- what the call answers, and no second answer fits
   pub answers : ClearAnswers st id (clearedCall base st id itself .result)
   pub only : (x : CutResult) → ClearAnswers st id x → x ≡ clearedCall base st id itself .result
+  -- never 14: "every listed child is alive"
+  pub alive : clearedCall base st id itself .result ≡ result.Refused ChildDead → ⊥
 
 pub record ClearsAll : Type 0 where
   pub holds : (base : ℕ) (st : State) → Ready base st → (id : ℕ) (itself : Bool) → Clears base st id itself

@@ -3,6 +3,7 @@
 -- 5"; "Lists keep the Rust's order". README: the four frames a mapping always suffice, so that no accepted call runs short half-way.
 use Prim.Native.Nat.{ℕ, _+_, _*_, _/_, _≤_, _<_}
 use mathlib.Core.Path.{_≡_}
+use mathlib.Core.Bool.{false}
 use mathlib.Core.List.{List}
 use lib.ListN.{length}
 use Rattle.refusal.specs.declared.Refusal.the-variants.{NotMapped}
@@ -21,7 +22,7 @@ use Rattle.vmar_laws.specs.Later.{Later}
 use Rattle.vmar_cuts.specs.Laws.{Lies}
 use Rattle.vmar_prune_laws.specs.Order.{InOrder}
 use Rattle.vmar_prune_laws.specs.Cut.{SameAt}
-use Rattle.vmar_unmap.specs.Unmap.{State, tablesOf, freeFrames}
+use Rattle.vmar_unmap.specs.Unmap.{State, tablesOf, freeFrames, hasDead}
 
 -- a space and a pool that pass their checks
 pub record Ready (base : ℕ) (st : State) : Type 0 where
@@ -69,3 +70,7 @@ pub record RegionsLeft (s t : Space) (Goes : ℕ → Type 0) : Type 0 where
 -- the region of this id is as it was, in its slot
 abbrev pub Same : Space → Space → ℕ → Type 0
 Same s t id = (slotOf t id ≡ slotOf s id) × (regionAt t (slotOf s id) ≡ regionAt s (slotOf s id))
+
+-- "every listed child is alive": no walk of a space that passes its check meets a dead one, so that 14 comes only on paper
+pub record NeverDead : Type 0 where
+  pub holds : (s : Space) (f : List ℕ) → Passes s f → hasDead s ≡ false

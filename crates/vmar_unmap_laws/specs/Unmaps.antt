@@ -6,7 +6,7 @@ use mathlib.Core.Path.{_≡_}
 use mathlib.Core.Bool.{true}
 use mathlib.Core.Logic.{_⊎_}
 use Rattle.refusal.specs.declared.Refusal.{Refusal}
-use Rattle.refusal.specs.declared.Refusal.the-variants.{InvalidArgs, BadState, NoFrames, NoSlot, BadHandle}
+use Rattle.refusal.specs.declared.Refusal.the-variants.{InvalidArgs, BadState, NoFrames, NoSlot, BadHandle, ChildDead}
 use Rattle.table_cuts.specs.Cuts.{nonEmpty}
 use Rattle.space.specs.Space.{regionAt, mappingAt, isRegion, isMapping}
 use Rattle.space.specs.declared.Space.{Space}
@@ -55,7 +55,7 @@ pub record Takes (s : Space) (r b e : ℕ) : Type 0 where
   pub whole : (i : ℕ) → Partly s r b e i → ⊥
   pub slots : (i : ℕ) → Short s r b e i → ⊥
 
--- what the call answers: 11, 1, 5, 1, 1, 10, 8 or success, in this order. It is never 14: "every listed child is alive".
+-- what the call answers: 11, 1, 5, 1, 1, 10, 8 or success, in this order. It is never 14.
 pub data UnmapAnswers (st : State) (id addr len : ℕ) : CutResult → Type 0 where
   unissued : st .space .nextid ≤ id → UnmapAnswers st id addr len (result.Refused BadHandle)
   odd : id < st .space .nextid → (WholePages addr len → ⊥) → UnmapAnswers st id addr len (result.Refused InvalidArgs)
@@ -102,6 +102,8 @@ pub record Unmaps (base : ℕ) (st : State) (id addr len : ℕ) : Type 0 where
   -- what the call answers, and no second answer fits
   pub answers : UnmapAnswers st id addr len (unmapped base st id addr len .result)
   pub only : (x : CutResult) → UnmapAnswers st id addr len x → x ≡ unmapped base st id addr len .result
+  -- never 14: "every listed child is alive"
+  pub alive : unmapped base st id addr len .result ≡ result.Refused ChildDead → ⊥
 
 pub record UnmapsAll : Type 0 where
   pub holds : (base : ℕ) (st : State) → Ready base st → (id addr len : ℕ) → Unmaps base st id addr len
