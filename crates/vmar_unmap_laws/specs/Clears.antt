@@ -78,7 +78,7 @@ pub record Clears (base : ℕ) (st : State) (id : ℕ) (itself : Bool) : Type 0 
   -- what the call answers, and no second answer fits
   pub answers : ClearAnswers st id (clearedCall base st id itself .result)
   pub only : (x : CutResult) → ClearAnswers st id x → x ≡ clearedCall base st id itself .result
-  -- never 14: "every listed child is alive"
+  -- never 14: every listed child is alive
   pub alive : clearedCall base st id itself .result ≡ result.Refused ChildDead → ⊥
 
 pub record ClearsAll : Type 0 where

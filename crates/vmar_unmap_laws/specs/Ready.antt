@@ -1,6 +1,6 @@
 -- What the calls that cut have in common. Document 01: "A space passes its check when .."; "An unmap, overwrite, clear or destroy requires four free frames for each
 -- non-empty mapping it will cut or drop, those in destroyed children included"; "Region ids .. never come back within a space", "An id once issued whose region is gone is
--- 5"; "Lists keep the Rust's order". README: the four frames a mapping always suffice, so that no accepted call runs short half-way.
+-- 5"; "Lists keep the Rust's order". The four frames a mapping always suffice, so that no accepted call runs short half-way.
 use Prim.Native.Nat.{ℕ, _+_, _*_, _/_, _≤_, _<_}
 use mathlib.Core.Path.{_≡_}
 use mathlib.Core.Bool.{false}
@@ -71,6 +71,6 @@ pub record RegionsLeft (s t : Space) (Goes : ℕ → Type 0) : Type 0 where
 abbrev pub Same : Space → Space → ℕ → Type 0
 Same s t id = (slotOf t id ≡ slotOf s id) × (regionAt t (slotOf s id) ≡ regionAt s (slotOf s id))
 
--- "every listed child is alive": no walk of a space that passes its check meets a dead one, so that 14 comes only on paper
+-- every listed child is alive: 14, "a destroy walk meets a dead child", comes only on paper
 pub record NeverDead : Type 0 where
   pub holds : (s : Space) (f : List ℕ) → Passes s f → hasDead s ≡ false

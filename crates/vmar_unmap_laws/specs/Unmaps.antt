@@ -102,7 +102,7 @@ pub record Unmaps (base : ℕ) (st : State) (id addr len : ℕ) : Type 0 where
   -- what the call answers, and no second answer fits
   pub answers : UnmapAnswers st id addr len (unmapped base st id addr len .result)
   pub only : (x : CutResult) → UnmapAnswers st id addr len x → x ≡ unmapped base st id addr len .result
-  -- never 14: "every listed child is alive"
+  -- never 14: every listed child is alive
   pub alive : unmapped base st id addr len .result ≡ result.Refused ChildDead → ⊥
 
 pub record UnmapsAll : Type 0 where
