@@ -51,7 +51,7 @@ pub enum Tested {
 }
 
 // The n bytes from `at` on become b.
-fn fill(flags: &mut [u8], at: usize, n: usize, b: u8)
+pub fn fill(flags: &mut [u8], at: usize, n: usize, b: u8)
     requires { ⌜ at + n ≤ length (now flags) ⌝ }
     ensures { λ _. ⌜ now (flags .exit) ≡ filled (now (flags .entry)) at n b ⌝ }
 {
@@ -63,7 +63,7 @@ fn fill(flags: &mut [u8], at: usize, n: usize, b: u8)
 }
 
 // The tests of `map_ext` that ask nothing of the space.
-fn test_args(
+pub fn test_args(
     vmo: Vmo,
     vmo_offset: u64,
     len: u64,
@@ -96,7 +96,7 @@ fn test_args(
 }
 
 // The mapping at the offset of region r, where its address is page-aligned, it is short enough and a slot is left.
-fn place(
+pub fn place(
     s: Space,
     pages: &mut [u8],
     r: usize,
