@@ -23,6 +23,7 @@ once = record {
   mapping-flags = λ s f id x a b. only;
   user-range = λ s f id addr len access a b. only;
   vaddr-flags = λ s f p base used id x a b. only-ordered;
+  map-ext = λ s f p base used id o vmo vmo-len at len permissions flags overwrite faults a b. only-ordered;
   cut = λ s f p base used does a b. only-ordered;
   protect = λ s f p base used id addr len access a b. only-ordered;
 }

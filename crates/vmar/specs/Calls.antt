@@ -1,5 +1,5 @@
 -- The calls on a space, whole. Document 01, 'Refusal numbers': "Order: 12, 13, 11, ..", "Only what is taken is tested"; "A refusal gives value 0 and changes nothing
--- anywhere". The cores' definitions (vmar_allocate, vmar_map, vmar_unmap, vmar_protect, vmar_lookup, vmar_user_range) go from 11 on; last, the promises, where 12 and 13 go by Passes and Good.
+-- anywhere". The cores' definitions (vmar_allocate, vmar_map, vmar_overwrite, vmar_unmap, vmar_protect, vmar_lookup, vmar_user_range) go from 11 on; last, the promises, where 12 and 13 go by Passes and Good.
 use Prim.Native.Nat.{ℕ, _/_}
 use mathlib.Core.Path.{_≡_}
 use mathlib.Core.Bool.{Bool, true}
@@ -23,6 +23,8 @@ use Rattle.vmar_map.specs.Map as map
 use Rattle.vmar_lookup.specs.Lookup.{mappingFlags, vaddrFlags}
 use Rattle.vmar_lookup.specs.declared.FlagsResult.{FlagsResult}
 use Rattle.vmar_lookup.specs.declared.FlagsResult.the-variants as flags
+use Rattle.vmar_overwrite.specs.Overwrite.{OverwriteDone, overwritten}
+use Rattle.vmar_overwrite.specs.Overwrite as over
 use Rattle.vmar_protect.specs.Protect.{Lent, lent, ProtectDone, protected}
 use Rattle.vmar_protect.specs.Protect as protect
 use Rattle.vmar_unmap.specs.Unmap.{State, CutDone, unmapped, clearedCall}
@@ -69,6 +71,17 @@ pub record ProtectedDone : Type 0 where
 abbrev pub kept : Space → ProtectDone → ProtectedDone
 kept s d = record { space = s; done = d }
 
+-- a map that never overwrites leaves the table alone
+abbrev pub besideTable : State → MapDone → OverwriteDone
+besideTable st d = record { result = d .result; state = record { space = d .space; flags = d .flags; pool = st .pool; used = st .used } }
+
+-- `map_ext` chooses between its two halves
+abbrev pub mapExt : ℕ → State → ℕ → Offset → ℕ → ℕ → ℕ → ℕ → ℕ → ℕ → Bool → Bool → OverwriteDone
+mapExt base st id o vmo vmo-len at len permissions flags overwrite faults =
+    pick overwrite
+    (overwritten base st id o vmo vmo-len at len permissions flags faults)
+    (besideTable st (mapped (st .space) (st .flags) id o vmo vmo-len at len permissions flags faults))
+
 -- 11, then "On a dead region lookups give 5", then the lookup
 unfoldable pub flagsCall : Space → List ℕ → ℕ → ℕ → FlagsResult
 flagsCall s f id x = pick (ltb id (s .nextid)) (pick (eqb (slotOf s id) 32) (flags.Refused BadState) (mappingFlags s f x (slotOf s id))) (flags.Refused BadHandle)
@@ -108,6 +121,12 @@ module _ (s : Space) (f : List ℕ) where
     -- all that a call may change, as it is before
     abbrev pub before : State
     before = record { space = s; flags = f; pool = p; used = used }
+
+    abbrev pub MapExtFits : ℕ → Offset → ℕ → ℕ → ℕ → ℕ → ℕ → ℕ → Bool → Bool → OverwriteDone → Type 0
+    MapExtFits id o vmo vmo-len at len permissions flags overwrite faults out =
+        Ordered (Passes s f) (Good p base used) (over.refused before BadSpace) (over.refused before BadTable)
+        (mapExt base before id o vmo vmo-len at len permissions flags overwrite faults)
+        out
 
     -- a call that cuts
     abbrev pub CutFits : CutDone → CutDone → Type 0

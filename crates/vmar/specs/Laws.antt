@@ -14,11 +14,12 @@ use Rattle.vmar_allocate.specs.declared.AllocateResult.the-variants as allocate
 use Rattle.vmar_map.specs.Map.{MapDone}
 use Rattle.vmar_map.specs.declared.MapExtResult.the-variants as map
 use Rattle.space.specs.Arrays.{Arrays}
+use Rattle.vmar_overwrite.specs.Overwrite.{OverwriteDone}
 use Rattle.vmar_unmap.specs.Unmap.{CutDone}
 use Rattle.vmar_laws.specs.Later.{Later}
 use Rattle.vmar_laws.specs.Allocates as allocates
 use Rattle.vmar_laws.specs.Maps as maps
-use Rattle.vmar.specs.Calls.{newSpace, AllocateFits, MapFits, FlagsFit, UserRangeFits, VaddrFits, CutFits, ProtectFits, FlagsDone, UserRangeDone, ProtectedDone}
+use Rattle.vmar.specs.Calls.{newSpace, AllocateFits, MapFits, FlagsFit, UserRangeFits, VaddrFits, MapExtFits, CutFits, ProtectFits, FlagsDone, UserRangeDone, ProtectedDone}
 
 -- "a proof shows that no second answer fits"
 pub record Once : Type 0 where
@@ -31,6 +32,10 @@ pub record Once : Type 0 where
   pub mapping-flags : (s : Space) (f : List ℕ) (id x : ℕ) (a b : FlagsDone) → FlagsFit s f id x a → FlagsFit s f id x b → a ≡ b
   pub user-range : (s : Space) (f : List ℕ) (id addr len access : ℕ) (a b : UserRangeDone) → UserRangeFits s f id addr len access a → UserRangeFits s f id addr len access b → a ≡ b
   pub vaddr-flags : (s : Space) (f p : List ℕ) (base used id x : ℕ) (a b : FlagsDone) → VaddrFits s f p base used id x a → VaddrFits s f p base used id x b → a ≡ b
+  pub map-ext : (s : Space) (f p : List ℕ) (base used id : ℕ) (o : Offset) (vmo vmo-len at len permissions flags : ℕ) (overwrite faults : Bool) (a b : OverwriteDone)
+      → MapExtFits s f p base used id o vmo vmo-len at len permissions flags overwrite faults a
+      → MapExtFits s f p base used id o vmo vmo-len at len permissions flags overwrite faults b
+      → a ≡ b
   -- unmap, destroy and clear, whatever they do
   pub cut : (s : Space) (f p : List ℕ) (base used : ℕ) (does a b : CutDone) → CutFits s f p base used does a → CutFits s f p base used does b → a ≡ b
   pub protect : (s : Space) (f p : List ℕ) (base used id addr len access : ℕ) (a b : ProtectedDone)

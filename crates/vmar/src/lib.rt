@@ -13,6 +13,7 @@ use vmar_lookup::FlagsResult;
 use vmar_map::MapExtResult;
 use vmar_map::Vmo;
 use vmar_offset::Offset;
+use vmar_overwrite::OverwriteOutcome;
 use vmar_protect::ProtectResult;
 use vmar_unmap::CutResult;
 use vmar_user_range::UserRangeResult;
@@ -21,7 +22,8 @@ ghost use mathlib.Core.Bool.{true, false};
 ghost use Prim.Native.Nat.{_/_};
 ghost use Rattle.form.specs.Form.{Good};
 ghost use Rattle.space.specs.Passes.{Passes, Passing};
-ghost use Rattle.vmar.specs.Calls.{newSpace, AllocateFits, MapFits, flagsCall, FlagsFit, UserRangeFits, vaddrCall, VaddrFits, UnmapFits, ClearFits, ProtectFits};
+ghost use Rattle.vmar_overwrite.specs.Overwrite as over;
+ghost use Rattle.vmar.specs.Calls.{newSpace, AllocateFits, MapFits, flagsCall, FlagsFit, UserRangeFits, vaddrCall, VaddrFits, mapExt, MapExtFits, UnmapFits, ClearFits, ProtectFits};
 
 const USER_ASPACE_BASE: u64 = 0x20_0000;
 
@@ -61,6 +63,12 @@ pub struct UserRangeChecked {
 }
 
 // With the frames in use.
+pub struct MappedOver {
+    pub result: MapExtResult,
+    pub space: AddressSpace,
+    pub used: usize,
+}
+
 pub struct Cut {
     pub result: CutResult,
     pub space: AddressSpace,
@@ -149,6 +157,64 @@ fn vaddr_flags_in(
         return FlagsResult::Refused(Refusal::BadState);
     }
     vmar_lookup::get_vaddr_flags(s, pool, base, used, r, vaddr)
+}
+
+// `map_ext` on a space and a pool that pass their checks: what stands there is replaced or refuses the call.
+fn map_ext_in(
+    s: Space,
+    pages: &mut [u8],
+    pool: &mut [u64],
+    base: u64,
+    used: usize,
+    id: u64,
+    offset: Offset,
+    vmo: Vmo,
+    vmo_offset: u64,
+    len: u64,
+    permissions: MMUFlags,
+    flags: MMUFlags,
+    overwrite: bool,
+    allow_faults: bool,
+) -> OverwriteOutcome
+    requires { ⌜ Passes s (now pages) × Good (now pool) base used ⌝ }
+    ensures { λ x. ⌜ over.done x (now (pages .exit)) (now (pool .exit)) ≡ mapExt base (record { space = s; flags = now (pages .entry); pool = now (pool .entry); used = used }) id offset (vmo .id) (vmo .len) «vmo_offset» len (permissions .0) (flags .0) overwrite «allow_faults» ⌝ }
+{
+    if overwrite {
+        return vmar_overwrite::map_overwrite(
+            s,
+            pages,
+            pool,
+            base,
+            used,
+            id,
+            offset,
+            vmo,
+            vmo_offset,
+            len,
+            permissions,
+            flags,
+            allow_faults,
+        );
+    }
+    let a = vmar_map::map(
+        s,
+        pages,
+        id,
+        offset,
+        vmo,
+        vmo_offset,
+        len,
+        permissions,
+        flags,
+        allow_faults,
+    );
+    let result = a.result;
+    let out = a.space;
+    OverwriteOutcome {
+        result: result,
+        space: out,
+        used: used,
+    }
 }
 
 impl AddressSpace {
@@ -249,6 +315,69 @@ impl AddressSpace {
         Mapped {
             result: result,
             space: space,
+        }
+    }
+
+    // A mapping of the VMO in the region, at the offset or where there is room; what stands there is replaced if so asked. No page is mapped in the table.
+    pub fn map_ext(
+        self,
+        pages: &mut [u8],
+        pool: &mut [u64],
+        base: u64,
+        used: usize,
+        region: u64,
+        offset: Offset,
+        vmo: Vmo,
+        vmo_offset: u64,
+        len: u64,
+        permissions: MMUFlags,
+        flags: MMUFlags,
+        overwrite: bool,
+        allow_faults: bool,
+    ) -> MappedOver
+        ensures { λ x. ⌜ MapExtFits (self .space) (now (pages .entry)) (now (pool .entry)) base used region offset (vmo .id) (vmo .len) «vmo_offset» len (permissions .0) (flags .0) overwrite «allow_faults» (record { result = x .result; state = record { space = x .space .space; flags = now (pages .exit); pool = now (pool .exit); used = x .used } }) ⌝ }
+    {
+        let s = self.space;
+        if !space_check::is_good(s, pages) {
+            let no = MapExtResult::Refused(Refusal::BadSpace);
+            return MappedOver {
+                result: no,
+                space: self,
+                used: used,
+            };
+        }
+        if !form::is_good(pool, base, used) {
+            let no = MapExtResult::Refused(Refusal::BadTable);
+            return MappedOver {
+                result: no,
+                space: self,
+                used: used,
+            };
+        }
+        let a = map_ext_in(
+            s,
+            pages,
+            pool,
+            base,
+            used,
+            region,
+            offset,
+            vmo,
+            vmo_offset,
+            len,
+            permissions,
+            flags,
+            overwrite,
+            allow_faults,
+        );
+        let result = a.result;
+        let out = a.space;
+        let after = a.used;
+        let space = AddressSpace { space: out };
+        MappedOver {
+            result: result,
+            space: space,
+            used: after,
         }
     }
 
