@@ -23,8 +23,17 @@ use Rattle.vmar_laws.specs.Maps as mapping
 use Rattle.vmar_laws.proofs.Later.{later-none, later-more}
 use Rattle.vmar_laws.proofs.Allocates.{allocates}
 use Rattle.vmar_laws.proofs.Maps.{maps}
-use Rattle.vmar.specs.Calls.{AllocateFits, MapFits, FlagsDone, UserRangeDone, Ordered, bad-space, bad-table, done}
-use Rattle.vmar.specs.Laws.{Step, Keeps, Means}
+use Rattle.form.specs.Form.{Good}
+use Rattle.vmar_unmap.specs.Unmap.{State, CutDone, unmapped, clearedCall}
+use Rattle.vmar_unmap.specs.declared.CutResult.{CutResult}
+use Rattle.vmar_unmap.specs.declared.CutResult.the-variants as cut
+use Rattle.vmar_laws.specs.Later.{Later}
+use Rattle.vmar_unmap_laws.specs.Ready.{Ready}
+use Rattle.vmar_unmap_laws.proofs.Unmaps.{unmaps}
+use Rattle.vmar_unmap_laws.proofs.Clears.{clears}
+use Rattle.vmar_protect.proofs.Laws.{protect-laws}
+use Rattle.vmar.specs.Calls.{AllocateFits, MapFits, FlagsDone, UserRangeDone, Ordered, bad-space, bad-table, done, before, UnmapFits, ClearFits, ProtectFits, ProtectedDone, protectedState}
+use Rattle.vmar.specs.Laws.{Step, Keeps, Means, Through}
 
 -- nothing changes
 still : {s t : Space} {f g : List ℕ} → Arrays s → t ≡ s → g ≡ f → Step s t f g
@@ -100,6 +109,48 @@ ordered-step arrays x y z (bad-space n e) = still arrays (ap (λ (d : FlagsDone)
 ordered-step arrays x y z (bad-table p n e) = still arrays (ap (λ (d : FlagsDone). d .space) e ∙ y) refl
 ordered-step arrays x y z (done p q e) = still arrays (ap (λ (d : FlagsDone). d .space) e ∙ z) refl
 
+-- a call that takes the table too
+through-still : {base : ℕ} {st t : State} → Arrays (st .space) → t ≡ st → Through base st t
+through-still {base} {st} {t} arrays e =
+    subst (Through base st) (sym e) (record { step = record { arrays = arrays; passes = λ p. p; later = later-none (st .space) }; good = λ g. g })
+
+-- where it is refused nothing changes, and where it is done both pass and ids are as they should be
+through-done : {base : ℕ} {st : State} (d : CutDone) → Arrays (st .space)
+    → ((why : Refusal) → d .result ≡ cut.Refused why → d .state ≡ st) → (d .result ≡ cut.Done → Ready base (d .state)) → Later (st .space) (d .state .space)
+    → Through base st (d .state)
+through-done {base} {st} d arrays refused done later = by (d .result) refl
+  where
+    by : (x : CutResult) → d .result ≡ x → Through base st (d .state)
+    by cut.Done e = let r = done e in record { step = record { arrays = r .arrays; passes = λ p. r .passes; later = later }; good = λ g. r .good }
+    by (cut.Refused why) e = through-still arrays (refused why e)
+
+through-ordered : {base : ℕ} {st : State} {P Q : Type 0} {a b does out : CutDone} → Arrays (st .space) → a .state ≡ st → b .state ≡ st → (P → Q → Through base st (does .state))
+    → Ordered P Q a b does out → Through base st (out .state)
+through-ordered arrays x y z (bad-space n e) = through-still arrays (ap (λ (d : CutDone). d .state) e ∙ x)
+through-ordered arrays x y z (bad-table p n e) = through-still arrays (ap (λ (d : CutDone). d .state) e ∙ y)
+through-ordered {base} {st} arrays x y z (done p q e) = subst (λ (d : CutDone). Through base st (d .state)) (sym e) (z p q)
+
+unmap-through : (s : Space) (f p : List ℕ) (base used id addr len : ℕ) → Arrays s → Passes s f → Good p base used
+    → Through base (before s f p base used) (unmapped base (before s f p base used) id addr len .state)
+unmap-through s f p base used id addr len arrays passes good =
+    let law = unmaps .holds base (before s f p base used) (record { arrays = arrays; passes = passes; good = good }) id addr len in
+    through-done (unmapped base (before s f p base used) id addr len) arrays (law .refused) (λ e. law .accepted e .ready) (law .later)
+
+clear-through : (s : Space) (f p : List ℕ) (base used id : ℕ) (itself : Bool) → Arrays s → Passes s f → Good p base used
+    → Through base (before s f p base used) (clearedCall base (before s f p base used) id itself .state)
+clear-through s f p base used id itself arrays passes good =
+    let law = clears .holds base (before s f p base used) (record { arrays = arrays; passes = passes; good = good }) id itself in
+    through-done (clearedCall base (before s f p base used) id itself) arrays (law .refused) (λ e. law .accepted e .ready) (law .later)
+
+protect-through : (s : Space) (f p : List ℕ) (base used id addr len access : ℕ) {out : ProtectedDone} → Arrays s → ProtectFits s f p base used id addr len access out
+    → Through base (before s f p base used) (protectedState used out)
+protect-through s f p base used id addr len access arrays (bad-space n e) = through-still arrays (ap (protectedState used) e)
+protect-through s f p base used id addr len access arrays (bad-table q n e) = through-still arrays (ap (protectedState used) e)
+protect-through s f p base used id addr len access arrays (done q g e) =
+    let law = protect-laws .protects s f p base used id addr len access q g in
+    subst (λ (d : ProtectedDone). Through base (before s f p base used) (protectedState used d)) (sym e)
+    (record { step = record { arrays = arrays; passes = λ z. law .passes; later = later-none s }; good = λ z. law .good })
+
 pub keeps : Keeps
 keeps = record {
   allocate = λ s f id o len flags align out arrays. allocate-step s f id o len flags align arrays;
@@ -107,6 +158,9 @@ keeps = record {
   mapping-flags = λ s f id x out arrays. looked-step (λ (d : FlagsDone). d .space) arrays refl refl;
   user-range = λ s f id addr len access out arrays. looked-step (λ (d : UserRangeDone). d .space) arrays refl refl;
   vaddr-flags = λ s f p base used id x out arrays. ordered-step arrays refl refl refl;
+  unmap = λ s f p base used id addr len out arrays. through-ordered arrays refl refl (unmap-through s f p base used id addr len arrays);
+  clear = λ s f p base used id itself out arrays. through-ordered arrays refl refl (clear-through s f p base used id itself arrays);
+  protect = λ s f p base used id addr len access out arrays. protect-through s f p base used id addr len access arrays;
   more = more;
 }
 

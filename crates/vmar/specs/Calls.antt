@@ -71,6 +71,9 @@ pub record ProtectedDone : Type 0 where
 abbrev pub kept : Space → ProtectDone → ProtectedDone
 kept s d = record { space = s; done = d }
 
+abbrev pub protectedState : ℕ → ProtectedDone → State
+protectedState used x = record { space = x .space; flags = x .done .flags; pool = x .done .pool; used = used }
+
 -- a map that never overwrites leaves the table alone
 abbrev pub besideTable : State → MapDone → OverwriteDone
 besideTable st d = record { result = d .result; state = record { space = d .space; flags = d .flags; pool = st .pool; used = st .used } }

@@ -15,11 +15,12 @@ use Rattle.vmar_map.specs.Map.{MapDone}
 use Rattle.vmar_map.specs.declared.MapExtResult.the-variants as map
 use Rattle.space.specs.Arrays.{Arrays}
 use Rattle.vmar_overwrite.specs.Overwrite.{OverwriteDone}
-use Rattle.vmar_unmap.specs.Unmap.{CutDone}
+use Rattle.vmar_unmap.specs.Unmap.{State, CutDone}
+use Rattle.form.specs.Form.{Good}
 use Rattle.vmar_laws.specs.Later.{Later}
 use Rattle.vmar_laws.specs.Allocates as allocates
 use Rattle.vmar_laws.specs.Maps as maps
-use Rattle.vmar.specs.Calls.{newSpace, AllocateFits, MapFits, FlagsFit, UserRangeFits, VaddrFits, MapExtFits, CutFits, ProtectFits, FlagsDone, UserRangeDone, ProtectedDone}
+use Rattle.vmar.specs.Calls.{newSpace, AllocateFits, MapFits, FlagsFit, UserRangeFits, VaddrFits, before, MapExtFits, CutFits, UnmapFits, ClearFits, ProtectFits, protectedState, FlagsDone, UserRangeDone, ProtectedDone}
 
 -- "a proof shows that no second answer fits"
 pub record Once : Type 0 where
@@ -62,6 +63,12 @@ pub record Step (s t : Space) (f g : List ℕ) : Type 0 where
   -- "Region ids .. never come back within a space"; "An id once issued whose region is gone is 5"
   pub later : Later s t
 
+-- through a call that takes the table too, st has become t
+pub record Through (base : ℕ) (st t : State) : Type 0 where
+  pub step : Step (st .space) (t .space) (st .flags) (t .flags)
+  -- a good pool goes on being one
+  pub good : Good (st .pool) base (st .used) → Good (t .pool) base (t .used)
+
 -- so it is through every call, refused or not, and through a call after another
 pub record Keeps : Type 0 where
   pub allocate : (s : Space) (f : List ℕ) (id : ℕ) (o : Offset) (len flags align : ℕ) (out : Allocation) → Arrays s
@@ -71,6 +78,13 @@ pub record Keeps : Type 0 where
   pub mapping-flags : (s : Space) (f : List ℕ) (id x : ℕ) (out : FlagsDone) → Arrays s → FlagsFit s f id x out → Step s (out .space) f f
   pub user-range : (s : Space) (f : List ℕ) (id addr len access : ℕ) (out : UserRangeDone) → Arrays s → UserRangeFits s f id addr len access out → Step s (out .space) f f
   pub vaddr-flags : (s : Space) (f p : List ℕ) (base used id x : ℕ) (out : FlagsDone) → Arrays s → VaddrFits s f p base used id x out → Step s (out .space) f f
+  pub unmap : (s : Space) (f p : List ℕ) (base used id addr len : ℕ) (out : CutDone) → Arrays s → UnmapFits s f p base used id addr len out
+      → Through base (before s f p base used) (out .state)
+  -- destroy and clear
+  pub clear : (s : Space) (f p : List ℕ) (base used id : ℕ) (itself : Bool) (out : CutDone) → Arrays s → ClearFits s f p base used id itself out
+      → Through base (before s f p base used) (out .state)
+  pub protect : (s : Space) (f p : List ℕ) (base used id addr len access : ℕ) (out : ProtectedDone) → Arrays s → ProtectFits s f p base used id addr len access out
+      → Through base (before s f p base used) (protectedState used out)
   pub more : (s t u : Space) (f g h : List ℕ) → Step s t f g → Step t u g h → Step s u f h
 
 -- what an accepted call does: vmar_laws/specs/Allocates and Maps
