@@ -118,11 +118,11 @@ through-still {base} {st} {t} arrays e =
 through-done : {base : ℕ} {st : State} (d : CutDone) → Arrays (st .space)
     → ((why : Refusal) → d .result ≡ cut.Refused why → d .state ≡ st) → (d .result ≡ cut.Done → Ready base (d .state)) → Later (st .space) (d .state .space)
     → Through base st (d .state)
-through-done {base} {st} d arrays refused done later = by (d .result) refl
+through-done {base} {st} d arrays stays ready later = by (d .result) refl
   where
     by : (x : CutResult) → d .result ≡ x → Through base st (d .state)
-    by cut.Done e = let r = done e in record { step = record { arrays = r .arrays; passes = λ p. r .passes; later = later }; good = λ g. r .good }
-    by (cut.Refused why) e = through-still arrays (refused why e)
+    by cut.Done e = let r = ready e in record { step = record { arrays = r .arrays; passes = λ p. r .passes; later = later }; good = λ g. r .good }
+    by (cut.Refused why) e = through-still arrays (stays why e)
 
 through-ordered : {base : ℕ} {st : State} {P Q : Type 0} {a b does out : CutDone} → Arrays (st .space) → a .state ≡ st → b .state ≡ st → (P → Q → Through base st (does .state))
     → Ordered P Q a b does out → Through base st (out .state)
