@@ -38,6 +38,10 @@ pub enum What {
     MappingFlags,
     VaddrFlags,
     Check,
+    Unmap,
+    Protect,
+    Destroy,
+    Clear,
     Region,
     Mapping,
     Reglist,
@@ -372,6 +376,22 @@ fn parse_space(line: &[u8]) -> Line {
     }
     if is_line(line, b"kernel", 0) {
         return with_fields(line, What::Kernel, 0);
+    }
+    parse_cut(line)
+}
+
+fn parse_cut(line: &[u8]) -> Line {
+    if is_line(line, b"runmap", 3) {
+        return with_fields(line, What::Unmap, 3);
+    }
+    if is_line(line, b"protect", 4) {
+        return with_fields(line, What::Protect, 4);
+    }
+    if is_line(line, b"destroy", 1) {
+        return with_fields(line, What::Destroy, 1);
+    }
+    if is_line(line, b"clear", 1) {
+        return with_fields(line, What::Clear, 1);
     }
     parse_setter(line)
 }

@@ -281,7 +281,7 @@ fn make(words: &mut [u64], out: &mut [u8], state: State, what: Line) -> State {
 
 // A line of the space that is no listing.
 fn make_space(
-    words: &[u64],
+    words: &mut [u64],
     pages: &mut [u8],
     out: &mut [u8],
     state: State,
@@ -292,7 +292,7 @@ fn make_space(
     let reply = trace_space::answer(
         state.held,
         pages,
-        &words[..len],
+        &mut words[..len],
         state.base,
         state.used,
         what,
@@ -300,7 +300,7 @@ fn make_space(
     );
     let answer = Answer {
         number: reply.number,
-        used: state.used,
+        used: reply.used,
         many: 1,
         a: reply.value,
         b: 0,
@@ -312,7 +312,7 @@ fn make_space(
         held,
         base: state.base,
         frames: state.frames,
-        used: state.used,
+        used: reply.used,
         lines: state.lines,
         len: state.len,
         waiting,
@@ -342,7 +342,7 @@ fn list_tree(pages: &[u8], out: &mut [u8], state: State) -> State {
 }
 
 fn reply_space(
-    words: &[u64],
+    words: &mut [u64],
     pages: &mut [u8],
     out: &mut [u8],
     state: State,

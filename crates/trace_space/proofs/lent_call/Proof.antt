@@ -23,6 +23,9 @@ call-requires c κs = search needs
 same-length : tie.Need-same-length
 same-length c = search needs
 
+same-length-2 : tie.Need-same-length-2
+same-length-2 c = search needs
+
 returns-2 : tie.Need-returns-2
 returns-2 c = search needs
 
@@ -36,4 +39,5 @@ lent-call-spec =
     slice-aggregate-call
     call-requires
     same-length
+    same-length-2
     returns-2)

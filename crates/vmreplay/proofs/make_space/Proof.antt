@@ -8,6 +8,9 @@ use Rattle.vmreplay.proofs.make_space.Tie as tie
 words-of-requires : tie.Need-words-of-requires
 words-of-requires c κs = search needs
 
+slice-relend-prefix-answer : tie.Need-slice-relend-prefix-answer
+slice-relend-prefix-answer c = search needs
+
 slice-aggregate-answer : tie.Need-slice-aggregate-answer
 slice-aggregate-answer c = simp length-take (omega arith)
 
@@ -23,6 +26,9 @@ same-length c = search needs
 same-length-2 : tie.Need-same-length-2
 same-length-2 c = search needs
 
+same-length-3 : tie.Need-same-length-3
+same-length-3 c = search needs
+
 returns : tie.Need-returns
 returns c = search needs
 
@@ -31,9 +37,11 @@ make-space-spec =
     tie.close
     (tie.spec
     words-of-requires
+    slice-relend-prefix-answer
     slice-aggregate-answer
     answer-requires
     write-answer-requires
     same-length
     same-length-2
+    same-length-3
     returns)

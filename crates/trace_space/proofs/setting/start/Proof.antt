@@ -7,10 +7,10 @@ use Rattle.trace_space.proofs.setting.start.Statement.{statement}
 use Rattle.trace_space.proofs.setting.start.Tie as tie
 
 abbrev Inv-loop : tie.InvT-loop
-Inv-loop a pages₀ i₀ pages i = (i ≤ length pages₀) × (length pages ≡ length pages₀)
+Inv-loop a pages₀ used i₀ pages i = (i ≤ length pages₀) × (length pages ≡ length pages₀)
 
 abbrev μ-loop : tie.MeasureT-loop
-μ-loop a pages₀ i₀ pages i = length pages₀ - i
+μ-loop a pages₀ used i₀ pages i = length pages₀ - i
 
 loop-holds : tie.Need-loop-holds Inv-loop μ-loop
 loop-holds c = search needs

@@ -3,8 +3,8 @@ use mathlib.Core.Path.{_≡_}
 use Prim.Native.Nat.{_≤_, _-_}
 use lib.ListN.{length}
 use borrow.Author.Needs.{needs}
-use Rattle.trace_space.proofs.listing.page_flags.Statement.{statement}
-use Rattle.trace_space.proofs.listing.page_flags.Tie as tie
+use Rattle.trace_listing.proofs.page_flags.Statement.{statement}
+use Rattle.trace_listing.proofs.page_flags.Tie as tie
 
 abbrev Inv-loop : tie.InvT-loop
 Inv-loop pages out₀ waiting now₀ i₀ out now i = (i ≤ length pages) × (length out ≡ length out₀)

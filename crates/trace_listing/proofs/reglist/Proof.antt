@@ -1,16 +1,16 @@
--- `maplist`: the index stays within the slots; the buffer keeps its length.
+-- `reglist`: the index stays within the slots; the buffer keeps its length.
 use mathlib.Core.Path.{_≡_}
 use Prim.Native.Nat.{_≤_, _-_}
 use lib.ListN.{length}
 use borrow.Author.Needs.{needs}
-use Rattle.trace_space.proofs.listing.maplist.Statement.{statement}
-use Rattle.trace_space.proofs.listing.maplist.Tie as tie
+use Rattle.trace_listing.proofs.reglist.Statement.{statement}
+use Rattle.trace_listing.proofs.reglist.Tie as tie
 
 abbrev Inv-loop : tie.InvT-loop
-Inv-loop out₀ waiting s now₀ k₀ out now k = (k ≤ 64) × (length out ≡ length out₀)
+Inv-loop out₀ waiting s now₀ k₀ out now k = (k ≤ 32) × (length out ≡ length out₀)
 
 abbrev μ-loop : tie.MeasureT-loop
-μ-loop out₀ waiting s now₀ k₀ out now k = 64 - k
+μ-loop out₀ waiting s now₀ k₀ out now k = 32 - k
 
 loop-holds : tie.Need-loop-holds Inv-loop μ-loop
 loop-holds c = search needs
@@ -39,8 +39,8 @@ same-length c = search needs
 returns : tie.Need-returns Inv-loop μ-loop
 returns c = search needs
 
-pub maplist-spec : {M : Type 1} → statement M
-maplist-spec =
+pub reglist-spec : {M : Type 1} → statement M
+reglist-spec =
     tie.close
     (tie.spec
     Inv-loop

@@ -3,8 +3,8 @@ use mathlib.Core.Path.{_≡_}
 use Prim.Native.Nat.{_≤_, _-_}
 use lib.ListN.{length}
 use borrow.Author.Needs.{needs}
-use Rattle.trace_space.proofs.listing.tree.Statement.{statement}
-use Rattle.trace_space.proofs.listing.tree.Tie as tie
+use Rattle.trace_listing.proofs.tree.Statement.{statement}
+use Rattle.trace_listing.proofs.tree.Tie as tie
 
 abbrev Inv-loop : tie.InvT-loop
 Inv-loop pages out₀ waiting s now₀ k₀ out now k = (k ≤ 32) × (length out ≡ length out₀)

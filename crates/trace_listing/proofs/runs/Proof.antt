@@ -3,8 +3,8 @@ use mathlib.Core.Path.{_≡_}
 use Prim.Native.Nat.{_≤_, _-_}
 use lib.ListN.{length}
 use borrow.Author.Needs.{needs}
-use Rattle.trace_space.proofs.listing.runs.Statement.{statement}
-use Rattle.trace_space.proofs.listing.runs.Tie as tie
+use Rattle.trace_listing.proofs.runs.Statement.{statement}
+use Rattle.trace_listing.proofs.runs.Tie as tie
 
 abbrev Inv-loop : tie.InvT-loop
 Inv-loop pages out₀ waiting now₀ from₀ i₀ out now from i = (from ≤ i) × (i ≤ length pages) × (length out ≡ length out₀)
