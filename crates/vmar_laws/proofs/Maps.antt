@@ -43,15 +43,15 @@ use Rattle.vmar_laws.proofs.Pages.{filled-length, pages-given}
 use Rattle.vmar_laws.proofs.Mapping.{Born, zeros, mapping-passes, mapping-arrays}
 
 -- what the first tests have shown: whole pages of the VMO that do not overflow, rights that are granted, and a range in the VMO unless faults are allowed
-record Fine (v at len p fl : ℕ) (faults : Bool) : Type 0 where
-  offset : at % 4096 ≡ 0
-  size : len % 4096 ≡ 0
-  end : at + len < 2 ^ 64
-  granted : grants p (rights fl) ≡ true
-  within : faults ≡ false → at + len ≤ v
+pub record Fine (v at len p fl : ℕ) (faults : Bool) : Type 0 where
+  pub offset : at % 4096 ≡ 0
+  pub size : len % 4096 ≡ 0
+  pub end : at + len < 2 ^ 64
+  pub granted : grants p (rights fl) ≡ true
+  pub within : faults ≡ false → at + len ≤ v
 
 -- how they end: fine, or refused, not with 3
-data Tests (v at len p fl : ℕ) (faults : Bool) : Tested → Type 0 where
+pub data Tests (v at len p fl : ℕ) (faults : Bool) : Tested → Type 0 where
   fine : Fine v at len p fl faults → Tests v at len p fl faults test.Fine
   fails : (why : Refusal) → (why ≡ NoMemory → _≡_ {A = ℕ} 0 1) → Tests v at len p fl faults (test.Refused why)
 
@@ -60,7 +60,7 @@ module _ (v at len p f : ℕ) (faults : Bool) where
   failing : (why : Refusal) → (why ≡ NoMemory → _≡_ {A = ℕ} 0 1) → (d : Tested) → test.Refused why ≡ d → Tests v at len p f faults d
   failing why n d e = subst (Tests v at len p f faults) e (fails why n)
 
-  tests : Tests v at len p f faults (tested v at len p f faults)
+  pub tests : Tests v at len p f faults (tested v at len p f faults)
   tests =
       ⊎-elim
       (λ (a : multiple at 4096 ≡ true). ⊎-elim
