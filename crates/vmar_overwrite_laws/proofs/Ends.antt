@@ -3,11 +3,11 @@ use Prim.Native.Nat.{ℕ, _+_, _*_, _%_, _≤_, _<_}
 use mathlib.Core.Path.{_≡_, refl, sym, _∙_, ap, subst}
 use mathlib.Core.Bool.{Bool, true, false}
 use mathlib.Core.List.{List}
-use mathlib.Core.Logic.{_⊎_, inl, inr, ⊎-elim}
+use mathlib.Core.Logic.{⊎-elim}
 use native.Mathlib.Omega.{arith}
 use lib.Dec.{eqb, leb, ltb}
 use borrow.Author.Tests.{leb-true, eqb-true, eqb-false, eq-eqb}
-use Rattle.paging.proofs.Cases.{same?, clash}
+use Rattle.paging.proofs.Cases.{same?}
 use Rattle.common.specs.Flags.{knownPage}
 use Rattle.scan.specs.Scan.{some}
 use Rattle.scan.proofs.Scans.{tell}
@@ -22,7 +22,6 @@ use Rattle.vmar_offset.specs.Offset.{slotOf, testMap, determineOffset}
 use Rattle.vmar_offset.specs.declared.Offset.{Offset}
 use Rattle.vmar_offset.specs.declared.Offset.the-variants as asked
 use Rattle.vmar_offset.specs.declared.OffsetResult.{OffsetResult}
-use Rattle.vmar_offset.specs.declared.OffsetResult.the-variants as offset
 use Rattle.vmar_offset.proofs.Offsets.{asked-odd, asked-free}
 use Rattle.vmar_offset.proofs.Found.{free-fits}
 use Rattle.vmar_doom.specs.Doomed.{marked}
@@ -31,11 +30,10 @@ use Rattle.vmar_map.specs.Map.{mapping, settled, mapped}
 use Rattle.vmar_map.specs.Map as half
 use Rattle.vmar_map.specs.declared.MapExtResult.the-variants as result
 use Rattle.vmar_map.specs.declared.Tested.{Tested}
-use Rattle.vmar_map.specs.declared.Tested.the-variants as test
 use Rattle.vmar_map.proofs.Maps as maps
 use Rattle.vmar_laws.proofs.Maps.{Fine, Tests, fine, fails, tests}
 use Rattle.vmar_unmap.specs.Unmap.{State, CutDone, freeFrames, cutState, partlyAt}
-use Rattle.vmar_overwrite.specs.Overwrite.{OverwriteDone, refused, newSlot, isShort, withNew, afterCut, cutFor, slotFor, replaced, uncut, overlaid, atOffset, byOffset, inRegion, afterTests, overwritten}
+use Rattle.vmar_overwrite.specs.Overwrite.{OverwriteDone, refused, newSlot, isShort, withNew, afterCut, cutFor, slotFor, replaced, uncut, atOffset, byOffset, inRegion, afterTests, overwritten}
 use Rattle.vmar_overwrite.proofs.Room.{RangeEnds, refusal, cuts, range-ends, not-short}
 use Rattle.vmar_overwrite.proofs.Calls.{empty, some-bytes, nothing-met, something-met, odd-offset, past-region, odd-address, at-address, dead, alive, never-issued, unknown-permissions, unknown-flags, known-all}
 

@@ -7,11 +7,11 @@ use mathlib.Core.Logic.{_⊎_, inl, inr, ⊎-elim}
 use native.Mathlib.Omega.{arith}
 use lib.ListN.{getD}
 use borrow.Author.Tests.{eq-eqb}
-use Rattle.paging.proofs.Cases.{below?, same?, clash, no-truth, decided-false}
+use Rattle.paging.proofs.Cases.{below?, clash, no-truth, decided-false}
 use Rattle.scan.specs.Scan.{some}
 use Rattle.scan.proofs.Scans.{tell, none-passes}
 use Rattle.space.specs.Range.{overlap, inside, contains}
-use Rattle.space.specs.Space.{regionAt, mappingAt, isRegion, isMapping, mappingPlace, blankRegion}
+use Rattle.space.specs.Space.{regionAt, mappingAt, isRegion, isMapping, mappingPlace}
 use Rattle.space.specs.Passes.{Passes, pageAt}
 use Rattle.space.specs.Arrays.{Arrays}
 use Rattle.space.specs.declared.Region.{Region}
@@ -32,7 +32,7 @@ use Rattle.vmar_prune_laws.proofs.Passing.{apart-any}
 use Rattle.vmar_prune_laws.proofs.Cuts.{cut-all}
 use Rattle.vmar_prune_laws.proofs.Calls.{calls-all}
 use Rattle.vmar_unmap.specs.Unmap.{isPartly, partlyAt}
-use Rattle.vmar_overwrite.specs.Overwrite.{secondFree, newSlot}
+use Rattle.vmar_overwrite.specs.Overwrite.{newSlot}
 use Rattle.vmar_overwrite.proofs.Room.{two-free, slot-alone, slot-second, split-room}
 use Rattle.vmar_overwrite_laws.specs.Overwrites.{NewMapping, cutOf, flagsOf}
 
