@@ -1,7 +1,7 @@
 -- What a space keeps through calls, and what accepted ones do.
 use Prim.Native.Nat.{ℕ}
 use mathlib.Core.Path.{_≡_, refl, sym, _∙_, ap, subst}
-use mathlib.Core.Bool.{Bool}
+use mathlib.Core.Bool.{Bool, true, false}
 use mathlib.Core.List.{List}
 use native.Mathlib.Omega.{arith}
 use Rattle.paging.specs.Choice.{Answered, refused, taken}
@@ -32,7 +32,10 @@ use Rattle.vmar_unmap_laws.specs.Ready.{Ready}
 use Rattle.vmar_unmap_laws.proofs.Unmaps.{unmaps}
 use Rattle.vmar_unmap_laws.proofs.Clears.{clears}
 use Rattle.vmar_protect.proofs.Laws.{protect-laws}
-use Rattle.vmar.specs.Calls.{AllocateFits, MapFits, FlagsDone, UserRangeDone, Ordered, bad-space, bad-table, done, before, UnmapFits, ClearFits, ProtectFits, ProtectedDone, protectedState}
+use Rattle.vmar_overwrite.specs.Overwrite.{OverwriteDone, overwritten}
+use Rattle.vmar_overwrite_laws.specs.Overwrites as over
+use Rattle.vmar_overwrite_laws.proofs.Overwrites.{overwrites}
+use Rattle.vmar.specs.Calls.{AllocateFits, MapFits, FlagsDone, UserRangeDone, Ordered, bad-space, bad-table, done, before, UnmapFits, ClearFits, ProtectFits, ProtectedDone, protectedState, mapExt}
 use Rattle.vmar.specs.Laws.{Step, Keeps, Means, Through}
 
 -- nothing changes
@@ -151,6 +154,35 @@ protect-through s f p base used id addr len access arrays (done q g e) =
     subst (λ (d : ProtectedDone). Through base (before s f p base used) (protectedState used d)) (sym e)
     (record { step = record { arrays = arrays; passes = λ z. law .passes; later = later-none s }; good = λ z. law .good })
 
+-- the half of map_ext that overwrites
+over-through : (base : ℕ) (st : State) (id : ℕ) (o : Offset) (vmo vmo-len at len permissions flags : ℕ) (faults : Bool) → Arrays (st .space) → Passes (st .space) (st .flags)
+    → Good (st .pool) base (st .used) → Through base st (overwritten base st id o vmo vmo-len at len permissions flags faults .state)
+over-through base st id o vmo vmo-len at len permissions flags faults arrays passes good =
+    by (overwritten base st id o vmo vmo-len at len permissions flags faults .result) refl
+  where
+    law : over.Overwrites base st id o vmo vmo-len at len permissions flags faults (overwritten base st id o vmo vmo-len at len permissions flags faults)
+    law = overwrites .holds base st arrays passes good id o vmo vmo-len at len permissions flags faults
+
+    by : (x : MapExtResult) → overwritten base st id o vmo vmo-len at len permissions flags faults .result ≡ x
+        → Through base st (overwritten base st id o vmo vmo-len at len permissions flags faults .state)
+    by (map.Mapped addr) e =
+        let a = law .accepted addr e in
+        record { step = record { arrays = a .arrays; passes = λ p. a .passes; later = law .later }; good = λ g. a .good }
+    by (map.Refused why) e = through-still arrays (law .refused why e)
+
+-- and both
+ext-through : (base : ℕ) (st : State) (id : ℕ) (o : Offset) (vmo vmo-len at len permissions flags : ℕ) (overwrite faults : Bool) → Arrays (st .space) → Passes (st .space) (st .flags)
+    → Good (st .pool) base (st .used) → Through base st (mapExt base st id o vmo vmo-len at len permissions flags overwrite faults .state)
+ext-through base st id o vmo vmo-len at len permissions flags true faults arrays passes good = over-through base st id o vmo vmo-len at len permissions flags faults arrays passes good
+ext-through base st id o vmo vmo-len at len permissions flags false faults arrays passes good =
+    record { step = mapped-step (st .space) (st .flags) (st .pool) base (st .used) id o vmo vmo-len at len permissions flags faults arrays passes; good = λ g. g }
+
+ext-ordered : {base : ℕ} {st : State} {P Q : Type 0} {a b does out : OverwriteDone} → Arrays (st .space) → a .state ≡ st → b .state ≡ st → (P → Q → Through base st (does .state))
+    → Ordered P Q a b does out → Through base st (out .state)
+ext-ordered arrays x y z (bad-space n e) = through-still arrays (ap (λ (d : OverwriteDone). d .state) e ∙ x)
+ext-ordered arrays x y z (bad-table p n e) = through-still arrays (ap (λ (d : OverwriteDone). d .state) e ∙ y)
+ext-ordered {base} {st} arrays x y z (done p q e) = subst (λ (d : OverwriteDone). Through base st (d .state)) (sym e) (z p q)
+
 pub keeps : Keeps
 keeps = record {
   allocate = λ s f id o len flags align out arrays. allocate-step s f id o len flags align arrays;
@@ -158,6 +190,8 @@ keeps = record {
   mapping-flags = λ s f id x out arrays. looked-step (λ (d : FlagsDone). d .space) arrays refl refl;
   user-range = λ s f id addr len access out arrays. looked-step (λ (d : UserRangeDone). d .space) arrays refl refl;
   vaddr-flags = λ s f p base used id x out arrays. ordered-step arrays refl refl refl;
+  map-ext = λ s f p base used id o vmo vmo-len at len permissions flags overwrite faults out arrays.
+      ext-ordered arrays refl refl (ext-through base (before s f p base used) id o vmo vmo-len at len permissions flags overwrite faults arrays);
   unmap = λ s f p base used id addr len out arrays. through-ordered arrays refl refl (unmap-through s f p base used id addr len arrays);
   clear = λ s f p base used id itself out arrays. through-ordered arrays refl refl (clear-through s f p base used id itself arrays);
   protect = λ s f p base used id addr len access out arrays. protect-through s f p base used id addr len access arrays;

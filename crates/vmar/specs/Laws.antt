@@ -78,6 +78,8 @@ pub record Keeps : Type 0 where
   pub mapping-flags : (s : Space) (f : List ℕ) (id x : ℕ) (out : FlagsDone) → Arrays s → FlagsFit s f id x out → Step s (out .space) f f
   pub user-range : (s : Space) (f : List ℕ) (id addr len access : ℕ) (out : UserRangeDone) → Arrays s → UserRangeFits s f id addr len access out → Step s (out .space) f f
   pub vaddr-flags : (s : Space) (f p : List ℕ) (base used id x : ℕ) (out : FlagsDone) → Arrays s → VaddrFits s f p base used id x out → Step s (out .space) f f
+  pub map-ext : (s : Space) (f p : List ℕ) (base used id : ℕ) (o : Offset) (vmo vmo-len at len permissions flags : ℕ) (overwrite faults : Bool) (out : OverwriteDone) → Arrays s
+      → MapExtFits s f p base used id o vmo vmo-len at len permissions flags overwrite faults out → Through base (before s f p base used) (out .state)
   pub unmap : (s : Space) (f p : List ℕ) (base used id addr len : ℕ) (out : CutDone) → Arrays s → UnmapFits s f p base used id addr len out
       → Through base (before s f p base used) (out .state)
   -- destroy and clear
