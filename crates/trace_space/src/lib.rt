@@ -91,9 +91,15 @@ fn alloc(held: Held, pages: &[u8], used: usize, f: Fields) -> Reply {
     }
 }
 
-// Maps that overwrite are not there yet.
-fn map_ext(held: Held, pages: &mut [u8], pool: &[u64], base: u64, used: usize, f: Fields) -> Reply {
-    if f.n[8] != 0 {
+fn map_ext(
+    held: Held,
+    pages: &mut [u8],
+    pool: &mut [u64],
+    base: u64,
+    used: usize,
+    f: Fields,
+) -> Reply {
+    if 1 < f.n[8] {
         return unreadable(held, used);
     }
     if 1 < f.n[9] {
@@ -103,7 +109,7 @@ fn map_ext(held: Held, pages: &mut [u8], pool: &[u64], base: u64, used: usize, f
         id: f.n[2],
         len: f.n[3],
     };
-    let out = held.space.map(
+    let out = held.space.map_ext(
         pages,
         pool,
         base,
@@ -115,12 +121,13 @@ fn map_ext(held: Held, pages: &mut [u8], pool: &[u64], base: u64, used: usize, f
         f.n[5],
         MMUFlags(f.n[6]),
         MMUFlags(f.n[7]),
+        f.n[8] == 1,
         f.n[9] == 1,
     );
     let result = out.result;
     match result {
-        MapExtResult::Mapped(addr) => done(out.space, held.lent, used, addr),
-        MapExtResult::Refused(why) => refused(out.space, held.lent, used, why),
+        MapExtResult::Mapped(addr) => done(out.space, held.lent, out.used, addr),
+        MapExtResult::Refused(why) => refused(out.space, held.lent, out.used, why),
     }
 }
 
