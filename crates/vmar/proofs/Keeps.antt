@@ -1,5 +1,5 @@
 -- What a space keeps through calls, and what accepted ones do.
-use Prim.Native.Nat.{ℕ}
+use Prim.Native.Nat.{ℕ, _+_}
 use mathlib.Core.Path.{_≡_, refl, sym, _∙_, ap, subst}
 use mathlib.Core.Bool.{Bool, true, false}
 use mathlib.Core.List.{List}
@@ -29,13 +29,15 @@ use Rattle.vmar_unmap.specs.declared.CutResult.{CutResult}
 use Rattle.vmar_unmap.specs.declared.CutResult.the-variants as cut
 use Rattle.vmar_laws.specs.Later.{Later}
 use Rattle.vmar_unmap_laws.specs.Ready.{Ready}
+use Rattle.vmar_unmap_laws.specs.Unmaps.{UnmapDone}
+use Rattle.vmar_unmap_laws.specs.Clears.{ClearDone}
 use Rattle.vmar_unmap_laws.proofs.Unmaps.{unmaps}
 use Rattle.vmar_unmap_laws.proofs.Clears.{clears}
 use Rattle.vmar_protect.proofs.Laws.{protect-laws}
 use Rattle.vmar_overwrite.specs.Overwrite.{OverwriteDone, overwritten}
 use Rattle.vmar_overwrite_laws.specs.Overwrites as over
 use Rattle.vmar_overwrite_laws.proofs.Overwrites.{overwrites}
-use Rattle.vmar.specs.Calls.{AllocateFits, MapFits, FlagsDone, UserRangeDone, Ordered, bad-space, bad-table, done, before, UnmapFits, ClearFits, ProtectFits, ProtectedDone, protectedState, mapExt}
+use Rattle.vmar.specs.Calls.{AllocateFits, MapFits, FlagsDone, UserRangeDone, Ordered, bad-space, bad-table, done, before, UnmapFits, ClearFits, ProtectFits, ProtectedDone, protectedState, mapExt, MapExtFits}
 use Rattle.vmar.specs.Laws.{Step, Keeps, Means, Through}
 
 -- nothing changes
@@ -198,8 +200,47 @@ keeps = record {
   more = more;
 }
 
+-- where a call that takes the table is accepted, it is its core that was
+accepted-by : {A R : Type 0} {P Q : Type 0} {no12 no13 does out : A} (of : A → R) (was : R) → (of no12 ≡ was → ⊥) → (of no13 ≡ was → ⊥) → Ordered P Q no12 no13 does out
+    → of out ≡ was → P × Q × (out ≡ does) × (of does ≡ was)
+accepted-by of was x y (bad-space n e) q = absurd (x (sym (ap of e) ∙ q))
+accepted-by of was x y (bad-table p n e) q = absurd (y (sym (ap of e) ∙ q))
+accepted-by of was x y (done p w e) q = (p, w, e, sym (ap of e) ∙ q)
+
+cut-refused-done : {why : Refusal} → _≡_ {A = CutResult} (cut.Refused why) cut.Done → ⊥
+cut-refused-done e = let z : _≡_ {A = ℕ} 0 1 = cc in omega arith
+
+map-refused-mapped : {why : Refusal} {addr : ℕ} → _≡_ {A = MapExtResult} (map.Refused why) (map.Mapped addr) → ⊥
+map-refused-mapped e = let z : _≡_ {A = ℕ} 0 1 = cc in omega arith
+
+module _ (s : Space) (f p : List ℕ) (base used id : ℕ) (arrays : Arrays s) where
+  unmap-means : (addr len : ℕ) (out : CutDone) → UnmapFits s f p base used id addr len out → out .result ≡ cut.Done
+      → UnmapDone base (before s f p base used) (out .state) (slotOf s id) addr (addr + len)
+  unmap-means addr len out fits q =
+      let a = accepted-by (λ (x : CutDone). x .result) cut.Done cut-refused-done cut-refused-done fits q in
+      subst (λ (x : CutDone). UnmapDone base (before s f p base used) (x .state) (slotOf s id) addr (addr + len)) (sym (a .2))
+      (unmaps .holds base (before s f p base used) (record { arrays = arrays; passes = a .0; good = a .1 }) id addr len .accepted (a .3))
+
+  clear-means : (itself : Bool) (out : CutDone) → ClearFits s f p base used id itself out → out .result ≡ cut.Done
+      → ClearDone base (before s f p base used) (out .state) (slotOf s id) itself
+  clear-means itself out fits q =
+      let a = accepted-by (λ (x : CutDone). x .result) cut.Done cut-refused-done cut-refused-done fits q in
+      subst (λ (x : CutDone). ClearDone base (before s f p base used) (x .state) (slotOf s id) itself) (sym (a .2))
+      (clears .holds base (before s f p base used) (record { arrays = arrays; passes = a .0; good = a .1 }) id itself .accepted (a .3))
+
+  over-means : (o : Offset) (vmo vmo-len at len permissions flags : ℕ) (faults : Bool) (out : OverwriteDone)
+      → MapExtFits s f p base used id o vmo vmo-len at len permissions flags true faults out → (addr : ℕ) → out .result ≡ map.Mapped addr
+      → over.Accepted base (before s f p base used) (out .state) (slotOf s id) addr o vmo vmo-len at len permissions flags faults
+  over-means o vmo vmo-len at len permissions flags faults out fits addr q =
+      let a = accepted-by (λ (x : OverwriteDone). x .result) (map.Mapped addr) map-refused-mapped map-refused-mapped fits q in
+      subst (λ (x : OverwriteDone). over.Accepted base (before s f p base used) (x .state) (slotOf s id) addr o vmo vmo-len at len permissions flags faults) (sym (a .2))
+      (overwrites .holds base (before s f p base used) arrays (a .0) (a .1) id o vmo vmo-len at len permissions flags faults .accepted addr (a .3))
+
 pub means : Means
 means = record {
+  overwrite = λ s f p base used id o vmo vmo-len at len permissions flags faults out arrays. over-means s f p base used id arrays o vmo vmo-len at len permissions flags faults out;
+  clear = λ s f p base used id itself out arrays. clear-means s f p base used id arrays itself out;
+  unmap = λ s f p base used id addr len out arrays. unmap-means s f p base used id arrays addr len out;
   allocate = λ s f id o len flags align out arrays. allocate-means s f id o len flags align arrays;
   map = λ s f p base used id o vmo vmo-len at len permissions flags faults out arrays. map-means s f p base used id o vmo vmo-len at len permissions flags faults arrays;
 }

@@ -1,8 +1,8 @@
 -- What is proved of the promises: no second outcome fits (proofs/Laws), a fresh space passes its check (proofs/Fresh), what a space keeps through calls and what an
 -- accepted call does (proofs/Keeps).
-use Prim.Native.Nat.{ℕ}
+use Prim.Native.Nat.{ℕ, _+_}
 use mathlib.Core.Path.{_≡_}
-use mathlib.Core.Bool.{Bool}
+use mathlib.Core.Bool.{Bool, true}
 use mathlib.Core.List.{List}
 use lib.ListN.{length, getD}
 use Rattle.space.specs.Passes.{Passes, RootRange}
@@ -15,7 +15,13 @@ use Rattle.vmar_map.specs.Map.{MapDone}
 use Rattle.vmar_map.specs.declared.MapExtResult.the-variants as map
 use Rattle.space.specs.Arrays.{Arrays}
 use Rattle.vmar_overwrite.specs.Overwrite.{OverwriteDone}
+use Rattle.refusal.specs.declared.Refusal.{Refusal}
+use Rattle.vmar_protect.specs.declared.ProtectResult.the-variants as protect
 use Rattle.vmar_unmap.specs.Unmap.{State, CutDone}
+use Rattle.vmar_unmap.specs.declared.CutResult.the-variants as cut
+use Rattle.vmar_unmap_laws.specs.Unmaps.{UnmapDone}
+use Rattle.vmar_unmap_laws.specs.Clears.{ClearDone}
+use Rattle.vmar_overwrite_laws.specs.Overwrites as over
 use Rattle.form.specs.Form.{Good}
 use Rattle.vmar_laws.specs.Later.{Later}
 use Rattle.vmar_laws.specs.Allocates as allocates
@@ -89,10 +95,35 @@ pub record Keeps : Type 0 where
       → Through base (before s f p base used) (protectedState used out)
   pub more : (s t u : Space) (f g h : List ℕ) → Step s t f g → Step t u g h → Step s u f h
 
--- what an accepted call does: vmar_laws/specs/Allocates and Maps
+-- what an accepted call does: vmar_laws/specs/Allocates and Maps, vmar_overwrite_laws/specs/Overwrites, vmar_unmap_laws/specs/Unmaps and Clears
 pub record Means : Type 0 where
   pub allocate : (s : Space) (f : List ℕ) (id : ℕ) (o : Offset) (len flags align : ℕ) (out : Allocation) → Arrays s
       → AllocateFits s f id o len flags align out → (n : ℕ) → out .result ≡ allocate.Region n → allocates.Accepted s (out .space) f (slotOf s id) n o len flags align
+  -- map_ext that overwrites
+  pub overwrite : (s : Space) (f p : List ℕ) (base used id : ℕ) (o : Offset) (vmo vmo-len at len permissions flags : ℕ) (faults : Bool) (out : OverwriteDone) → Arrays s
+      → MapExtFits s f p base used id o vmo vmo-len at len permissions flags true faults out → (addr : ℕ) → out .result ≡ map.Mapped addr
+      → over.Accepted base (before s f p base used) (out .state) (slotOf s id) addr o vmo vmo-len at len permissions flags faults
   pub map : (s : Space) (f p : List ℕ) (base used id : ℕ) (o : Offset) (vmo vmo-len at len permissions flags : ℕ) (faults : Bool) (out : MapDone) → Arrays s
       → MapFits s f p base used id o vmo vmo-len at len permissions flags faults out → (addr : ℕ) → out .result ≡ map.Mapped addr
       → maps.Accepted s (out .space) f (out .flags) (slotOf s id) addr o vmo vmo-len at len permissions flags faults
+  -- destroy and clear
+  pub clear : (s : Space) (f p : List ℕ) (base used id : ℕ) (itself : Bool) (out : CutDone) → Arrays s → ClearFits s f p base used id itself out → out .result ≡ cut.Done
+      → ClearDone base (before s f p base used) (out .state) (slotOf s id) itself
+  pub unmap : (s : Space) (f p : List ℕ) (base used id addr len : ℕ) (out : CutDone) → Arrays s → UnmapFits s f p base used id addr len out → out .result ≡ cut.Done
+      → UnmapDone base (before s f p base used) (out .state) (slotOf s id) addr (addr + len)
+
+-- "A refusal gives value 0 and changes nothing anywhere", whatever the space, the flags and the pool are; a lookup changes nothing in any case
+pub record Refuses : Type 0 where
+  pub allocate : (s : Space) (f : List ℕ) (id : ℕ) (o : Offset) (len flags align : ℕ) (out : Allocation) (why : Refusal) → Arrays s
+      → AllocateFits s f id o len flags align out → out .result ≡ allocate.Refused why → out .space ≡ s
+  pub map-ext : (s : Space) (f p : List ℕ) (base used id : ℕ) (o : Offset) (vmo vmo-len at len permissions flags : ℕ) (overwrite faults : Bool) (out : OverwriteDone) (why : Refusal)
+      → Arrays s → MapExtFits s f p base used id o vmo vmo-len at len permissions flags overwrite faults out → out .result ≡ map.Refused why → out .state ≡ before s f p base used
+  pub map : (s : Space) (f p : List ℕ) (base used id : ℕ) (o : Offset) (vmo vmo-len at len permissions flags : ℕ) (faults : Bool) (out : MapDone) (why : Refusal) → Arrays s
+      → MapFits s f p base used id o vmo vmo-len at len permissions flags faults out → out .result ≡ map.Refused why → (out .space ≡ s) × (out .flags ≡ f)
+  pub unmap : (s : Space) (f p : List ℕ) (base used id addr len : ℕ) (out : CutDone) (why : Refusal) → Arrays s → UnmapFits s f p base used id addr len out
+      → out .result ≡ cut.Refused why → out .state ≡ before s f p base used
+  -- destroy and clear
+  pub clear : (s : Space) (f p : List ℕ) (base used id : ℕ) (itself : Bool) (out : CutDone) (why : Refusal) → Arrays s → ClearFits s f p base used id itself out
+      → out .result ≡ cut.Refused why → out .state ≡ before s f p base used
+  pub protect : (s : Space) (f p : List ℕ) (base used id addr len access : ℕ) (out : ProtectedDone) (why : Refusal) → ProtectFits s f p base used id addr len access out
+      → out .done .result ≡ protect.Refused why → protectedState used out ≡ before s f p base used
