@@ -1,5 +1,6 @@
 -- What the cuts of a region call are, in a space that passes its check, and what they do to the table. Document 01, 'Regions': "four free frames for each non-empty mapping it will
--- cut or drop, those in destroyed children included; otherwise 8"; README, demand 3: "Every address outside keeps its frame and rights; no address inside has a frame any more".
+-- cut or drop, those in destroyed children included; otherwise 8"; README, demand 3: "Every address outside keeps its frame and rights; no address inside has a frame any more",
+-- where inside is what a mapping held.
 --
 -- In this order: what a cut is a cut of, both ways, for unmap and for destroy; what is left of the table; the theorem.
 use Prim.Native.Nat.{ℕ, _+_, _-_, _*_, _/_, _≤_, _<_}

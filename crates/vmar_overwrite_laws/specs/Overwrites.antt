@@ -1,7 +1,7 @@
 -- What an overwrite on a space that passes its check and a good pool does. Document 01: "A refusal gives value 0 and changes nothing anywhere"; "every child and mapping
 -- is in one list and inside its region, no two of a region overlap"; "slots freed by a call do not count for that call"; "Region ids .. never come back within a space";
 -- "A mapping whose address is not page-aligned is 1"; "A split needs a slot free before the call and a new mapping one more, after it". README, demand 3: "Every address
--- outside keeps its frame and rights; no address inside has a frame any more".
+-- outside keeps its frame and rights; no address inside has a frame any more", where inside is what a mapping held.
 --
 -- In this order: the new mapping, what stays, an accepted call, one that meets something, the theorem.
 use Prim.Native.Nat.{ℕ, _+_, _-_, _/_, _%_, _≤_, _<_}

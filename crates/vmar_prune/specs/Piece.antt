@@ -5,7 +5,7 @@
 --     postfix  [------xxxx]    the bytes before b
 --     middle   [---xxxx---]    both: the mapping keeps those before b, and a new one takes those from e on
 --
--- A mapping outside the range keeps all its bytes on one side. "Page flags move by pages and never by bytes; VMO offsets move along."
+-- A mapping outside the range keeps all its bytes on one side. Page flags move by pages and VMO offsets along with them; document 01, 'Traps': "Trimming page flags by bytes".
 use Prim.Native.Nat.{ℕ, zero, suc, _+_, _-_, _*_, _/_}
 use mathlib.Core.Bool.{Bool, true, false, not}
 use mathlib.Core.List.{List}

@@ -1,5 +1,5 @@
 -- A space after [b, e) was cut out of region r: the doomed regions are gone and with them their mappings; the mappings of r keep what lies outside, empty ones are
--- dropped; lists keep their order. "a middle cut's suffix takes the lowest slot that was free before the call and the end of the list"; "any accepted unmap drops all
+-- dropped; lists keep their order. The second part of a middle cut takes the lowest slot that was free before the call and the end of the list; "any accepted unmap drops all
 -- empty mappings of its region"; "Slots of destroyed regions and dropped mappings are used again"; "free slots blank".
 use Prim.Native.Nat.{ℕ, zero, suc, _+_, _-_, _*_, _/_}
 use mathlib.Core.Bool.{Bool, true, false, not}

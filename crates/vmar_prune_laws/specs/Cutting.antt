@@ -26,7 +26,7 @@ pub record Cutting (s : Space) (f : List ℕ) (marks : List Bool) (r b e : ℕ) 
   -- a mark for each region; what lies below one that goes, goes too
   pub long : length marks ≡ 32
   pub closed : (i : ℕ) → i < 32 → isRegion s i ≡ true → getD marks (regionAt s i .parent) false ≡ true → getD marks i false ≡ true
-  -- where r itself goes, all of it is cut
+  -- where r itself goes, the cut begins at 0, so that nothing is split
   pub all : getD marks r false ≡ true → b ≡ 0
   -- "a slot free before the call"
   pub room : splitSlot s r b e < 64 → freeMapping s < 64
