@@ -33,8 +33,18 @@ def rename(crates):
             open(path, "w").write(re.sub(r"(?<![:\w])%s::" % old, new + "::", text))
 
 
+LINKER = """#!/bin/sh
+%s "$@" || exit
+while [ "$1" != -o ]; do shift; done
+n=1
+while [ -e %s.$n ]; do n=$((n + 1)); done
+cp "$2" %s.$n
+"""
+
+
 class Kit:
-    """The toolchain, with a linker that leaves a copy of what it links. `rt try` compiles programs that are not proved, and keeps none."""
+    """The toolchain, with a linker that leaves a copy of what it links. `rt try` compiles programs that are not proved, and keeps none: at -O0, at -O3 and with the
+    compiler's assumptions checked, in this order."""
 
     def __init__(self, where):
         self.home = os.path.dirname(os.path.dirname(subprocess.run(["rt", "doc"], capture_output=True, text=True, check=True).stdout.strip()))
@@ -47,9 +57,10 @@ class Kit:
             if name != "ld.lld":
                 os.symlink(os.path.join(real, "bin", name), os.path.join(self.tools, "bin", name))
         self.linked = os.path.join(where, "linked")
+        self.fast = self.linked + ".2"
         script = os.path.join(self.tools, "bin", "ld.lld")
         with open(script, "w") as f:
-            f.write('#!/bin/sh\n%s "$@" || exit\nwhile [ "$1" != -o ]; do shift; done\ncp "$2" %s\n' % (os.path.join(real, "bin", "ld.lld"), self.linked))
+            f.write(LINKER % (os.path.join(real, "bin", "ld.lld"), self.linked, self.linked))
         os.chmod(script, 0o755)
 
     def build(self, crates, program, names, out):
@@ -58,14 +69,14 @@ class Kit:
         for name in names + ["std"]:
             ours = os.path.join(crates, name, "src/lib.rt")
             libs += ["--lib", "%s=%s" % (name, ours if os.path.exists(ours) else os.path.join(self.home, "libs", name, "src/lib.rt"))]
-        if os.path.exists(self.linked):
-            os.remove(self.linked)
+        for old in glob.glob(self.linked + ".*"):
+            os.remove(old)
         done = subprocess.run([os.path.join(self.own, "bin/rattle-cases"), "--toolchain", self.tools, "--stdin", "/dev/null",
                                os.path.join(crates, program, "src/main.rt"), "--crate-name", program] + libs, capture_output=True, text=True)
-        if not os.path.exists(self.linked):
+        if not os.path.exists(self.fast):
             print(done.stdout[-600:] + done.stderr[-600:])
             return False
-        shutil.move(self.linked, out)
+        shutil.move(self.fast, out)
         return True
 
 

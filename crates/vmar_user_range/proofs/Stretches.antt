@@ -14,7 +14,7 @@ use Rattle.paging.proofs.Cases.{below?, no-truth, clash}
 use Rattle.common.specs.Flags.{has, USER, HUGE_PAGE, grants}
 use Rattle.refusal.specs.declared.Refusal.the-variants.{AccessDenied, NotFound}
 use Rattle.scan.proofs.Gather.{xor-same, xor-of}
-use Rattle.scan.proofs.Scans.{tell, first-passes, first-most, before-first}
+use Rattle.scan.proofs.Scans.{tell, before-first}
 use Rattle.space.specs.Range.{contains}
 use Rattle.space.specs.Space.{regionAt, mappingAt, isRegion, isMapping}
 use Rattle.space.specs.Passes.{Passes, LiveIn, others, pageAt}
@@ -26,11 +26,25 @@ use Rattle.vmar_lookup.specs.Laws.{Holds, Lookups}
 use Rattle.vmar_lookup.specs.declared.Found.{Found}
 use Rattle.vmar_lookup.specs.declared.Found.the-variants as found
 use Rattle.vmar_lookup.proofs.Laws.{lookups}
-use Rattle.vmar_user_range.specs.UserRange.{allows, judged, startOf, verdict, checkedTo, isHeld, heldAt, holderOf, AllGrant, pagesIn, Stretched, Tested, no-user, denied, granted}
+use Rattle.scan.specs.Scan.{first}
+use Rattle.vmar_user_range.specs.UserRange.{allows, judged, startOf, verdict, checkedTo, isHeld, AllGrant, PageOf, pagesIn, Tested, no-user, denied, granted}
+use Rattle.vmar_user_range.specs.declared.UserRangeResult.{UserRangeResult}
 use Rattle.vmar_user_range.specs.declared.UserRangeResult.the-variants.{Allowed, Refused}
 use Rattle.vmar_user_range.specs.declared.Stretch.{Stretch}
 use Rattle.vmar_user_range.specs.declared.Stretch.the-variants as stretch
 use Rattle.vmar_user_range.proofs.Runs.{on-to, stops-at, stops-here}
+
+-- the slot of the mapping that holds x, 64 where none does
+abbrev pub heldAt : Space → ℕ → ℕ → Bool
+heldAt s x i = isHeld (mappingAt s i) x
+
+abbrev pub holderOf : Space → ℕ → ℕ
+holderOf s x = first (heldAt s x) 0 64
+
+-- a stretch of pages says of all from `page` to the last: so many are allowed and the others remain, or it is refused
+abbrev pub Stretched : (ℕ → UserRangeResult) → ℕ → ℕ → Stretch → Type 0
+Stretched v page last (stretch.Allowed n) = (0 < n) × (page + n ≤ last + 1) × (checkedTo v page last ≡ checkedTo v (page + n) last)
+Stretched v page last (stretch.Refused why) = checkedTo v page last ≡ Refused why
 
 -- where a page is looked up
 pub at-addr : (addr page : ℕ) → page * 4096 < addr → startOf addr page ≡ addr
@@ -80,7 +94,7 @@ lacks-none b access e = eq-eqb (bitAnd b access) access (xor-same (bitAnd b acce
 pub grants-all : (b access : ℕ) → grants b access ≡ true → bitXor (bitAnd b access) access ≡ 0
 grants-all b access e = xor-of (bitAnd b access) access (eqb-true (bitAnd b access) access e)
 
--- the slot that is found lives and holds the address; where none is, no mapping holds it
+-- a slot that is found lives and holds the address; where none is, no mapping holds it
 held-is : (m : Mapping) (x : ℕ) → isHeld m x ≡ true → (m .live ≡ true) × (contains (m .addr) (m .size) x ≡ true)
 unfolding isHeld
 held-is m x e = ⊎-elim (λ (a : m .live ≡ true). (a, rw a at e)) (λ (a : m .live ≡ false). no-truth (rw a at e)) (tell (m .live))
@@ -89,24 +103,33 @@ held-of : (m : Mapping) (x : ℕ) → m .live ≡ true → contains (m .addr) (m
 unfolding isHeld
 held-of m x a c = rw (a, c)
 
-pub holder-holds : (s : Space) (x : ℕ) → holderOf s x < 64 → Holds s x (holderOf s x)
-holder-holds s x l =
-    let h = held-is (mappingAt s (holderOf s x)) x (first-passes (heldAt s x) 64 l) in
-    record { slot = l; live = h .0; holds = h .1 }
-
 pub none-holds : (s : Space) (x m : ℕ) → holderOf s x ≡ 64 → Holds s x m → ⊥
 none-holds s x m e h =
     let l = h .slot in
     clash (heldAt s x m) (held-of (mappingAt s m) x (h .live) (h .holds)) (before-first (heldAt s x) 64 m (omega (arith, e, l)))
 
--- by what the code has found: x is where the page is looked up, m the slot
-pub holder-there : (s : Space) (x y m : ℕ) → x ≡ y → m ≡ holderOf s x → (m ≡ 64 → ⊥) → Holds s y m
-holder-there s x y m e k some =
-    let most = first-most (heldAt s x) 64 in
-    subst (λ (z : ℕ). Holds s z m) e (subst (Holds s x) (sym k) (holder-holds s x (omega (arith, k, most, some))))
+-- by what the code has found: x is where the page is looked up
+pub held-there : (s : Space) (x y m : ℕ) → x ≡ y → m < 64 → isHeld (mappingAt s m) x ≡ true → Holds s y m
+held-there s x y m e l c = let h = held-is (mappingAt s m) x c in subst (λ (z : ℕ). Holds s z m) e (record { slot = l; live = h .0; holds = h .1 })
 
-pub holder-none : (s : Space) (x y m : ℕ) → x ≡ y → m ≡ holderOf s x → m ≡ 64 → holderOf s y ≡ 64
-holder-none s x y m e k none = ap (holderOf s) (sym e) ∙ sym k ∙ none
+-- the pages that are counted lie in the mapping
+pub counted : (m : Mapping) (page last : ℕ) → PageOf m page → page ≤ last
+    → (0 < pagesIn m page last) × (page + pagesIn m page last ≤ last + 1) × (page + pagesIn m page last ≤ (m .addr + m .size) / 4096)
+unfolding pagesIn
+counted m page last o to =
+    let i = o .to in
+    ⊎-elim
+    (λ (k : last < (m .addr + m .size) / 4096). rw (lt-ltb last _ k) (omega arith, omega arith, omega arith))
+    (λ (k : (m .addr + m .size) / 4096 ≤ last). rw (le-ltb last _ k) (omega arith, omega arith, omega arith))
+    (below? last _)
+
+-- what the code has found of n pages, which are k
+module _ (f : List ℕ) (at n k access : ℕ) (e : n ≡ k) (user : grants (getD f at 0) USER ≡ true) where
+  pub some-lack : (AllGrant f at n access → ⊥) → Tested f at k access (stretch.Refused AccessDenied)
+  some-lack some = denied user (subst (λ (j : ℕ). AllGrant f at j access → ⊥) e some) refl
+
+  pub all-grant : AllGrant f at n access → Tested f at k access (stretch.Allowed n)
+  all-grant all = granted user (subst (λ (j : ℕ). AllGrant f at j access) e all) (ap stretch.Allowed e)
 
 module _ (s : Space) (f : List ℕ) (p : Passes s f) (r : ℕ) (l : r < 32) (a : isRegion s r ≡ true) (addr access : ℕ) where
   laws : Lookups s f
@@ -141,40 +164,27 @@ module _ (s : Space) (f : List ℕ) (p : Passes s f) (r : ℕ) (l : r < 32) (a :
     base : ℕ
     base = mappingAt s m .addr / 4096
 
-    -- the page lies in the mapping, by its number
-    pub first-in : (mappingAt s m .addr / 4096 ≤ page) × (page < (mappingAt s m .addr + mappingAt s m .size) / 4096)
-    first-in =
+    -- the page is one of the mapping's
+    pub page-of : PageOf (mappingAt s m) page
+    page-of =
         let z = p .paged m (h .slot) (h .live) in
         let z0 = z .addr in
         let z1 = z .size in
+        let few = z .few in
         let c = ranges.holds _ _ _ (h .holds) in
         let c0 = c .0 in
         let c1 = c .1 in
         let t = start-in addr page from in
         let t0 = t .0 in
         let t1 = t .1 in
-        (omega arith, omega arith)
-
-    -- so do as many pages as are counted
-    pub count-in : (0 < pagesIn (mappingAt s m) page last) × (page + pagesIn (mappingAt s m) page last ≤ last + 1)
-        × (page + pagesIn (mappingAt s m) page last ≤ (mappingAt s m .addr + mappingAt s m .size) / 4096)
-    unfolding pagesIn
-    count-in =
-        let i = first-in in
-        let i0 = i .0 in
-        let i1 = i .1 in
-        ⊎-elim
-        (λ (k : last < (mappingAt s m .addr + mappingAt s m .size) / 4096). rw (lt-ltb last _ k) (omega arith, omega arith, omega arith))
-        (λ (k : (mappingAt s m .addr + mappingAt s m .size) / 4096 ≤ last). rw (le-ltb last _ k) (omega arith, omega arith, omega arith))
-        (below? last _)
+        record { end = z .end; from = omega arith; to = omega arith; few = omega arith }
 
     -- what one of them allows
     of-page : (q : ℕ) → page ≤ q → q < page + pagesIn (mappingAt s m) page last → verdict s f r addr access q ≡ allows access (pageAt f m (q - mappingAt s m .addr / 4096))
     of-page q low high =
-        let n = count-in in
+        let n = counted (mappingAt s m) page last page-of to in
         let n2 = n .2 in
-        let i = first-in in
-        let i0 = i .0 in
+        let i0 = page-of .from in
         let z = p .paged m (h .slot) (h .live) in
         let z0 = z .addr in
         let z1 = z .size in
@@ -193,11 +203,10 @@ module _ (s : Space) (f : List ℕ) (p : Passes s f) (r : ℕ) (l : r < 32) (a :
     user-there : (q : ℕ) → page ≤ q → q < page + pagesIn (mappingAt s m) page last
         → grants (pageAt f m (q - mappingAt s m .addr / 4096)) USER ≡ grants (pageAt f m (page - mappingAt s m .addr / 4096)) USER
     user-there q low high =
-        let n = count-in in
+        let n = counted (mappingAt s m) page last page-of to in
         let n2 = n .2 in
-        let i = first-in in
-        let i0 = i .0 in
-        let i1 = i .1 in
+        let i0 = page-of .from in
+        let i1 = page-of .to in
         let z = p .paged m (h .slot) (h .live) in
         let z0 = z .addr in
         let z1 = z .size in
@@ -208,7 +217,7 @@ module _ (s : Space) (f : List ℕ) (p : Passes s f) (r : ℕ) (l : r < 32) (a :
     place = m * 512 + (page - mappingAt s m .addr / 4096)
 
     byte-at : (j : ℕ) → getD f (m * 512 + (page - mappingAt s m .addr / 4096) + j) 0 ≡ pageAt f m (page + j - mappingAt s m .addr / 4096)
-    byte-at j = let i = first-in in let i0 = i .0 in ap (λ (k : ℕ). getD f k 0) (omega arith)
+    byte-at j = let i0 = page-of .from in ap (λ (k : ℕ). getD f k 0) (omega arith)
 
     byte-of : getD f (m * 512 + (page - mappingAt s m .addr / 4096)) 0 ≡ pageAt f m (page - mappingAt s m .addr / 4096)
     byte-of = refl
@@ -217,17 +226,17 @@ module _ (s : Space) (f : List ℕ) (p : Passes s f) (r : ℕ) (l : r < 32) (a :
     pub told : (x : Stretch) → Tested f (m * 512 + (page - mappingAt s m .addr / 4096)) (pagesIn (mappingAt s m) page last) access x
         → Stretched (verdict s f r addr access) page last x
     told x (no-user u e) =
-        let n = count-in in
+        let n = counted (mappingAt s m) page last page-of to in
         subst (Stretched (verdict s f r addr access) page last) (sym e)
         (stops-here (verdict s f r addr access) NotFound page last to (of-page page (omega arith) (omega (arith, n .0)) ∙ rw u))
     told x (denied u some e) =
-        let n = count-in in
+        let n = counted (mappingAt s m) page last page-of to in
         subst (Stretched (verdict s f r addr access) page last) (sym e)
         (stops-at (verdict s f r addr access) AccessDenied (λ (q : ℕ). grants (pageAt f m (q - mappingAt s m .addr / 4096)) access) page (pagesIn (mappingAt s m) page last) last (n .1)
         (λ q low high. of-page q low high ∙ rw (user-there q low high ∙ u))
         (λ all. some (λ j k. ap (λ (b : ℕ). grants b access) (byte-at j) ∙ all (page + j) (omega arith) (omega arith))))
     told x (granted u all e) =
-        let n = count-in in
+        let n = counted (mappingAt s m) page last page-of to in
         subst (Stretched (verdict s f r addr access) page last) (sym e) (
           n .0,
           n .1,

@@ -15,7 +15,7 @@ ghost use lib.ListN.{length};
 ghost use Rattle.common.specs.Flags.{knownPage};
 ghost use Rattle.paging.specs.Choice.{Decided};
 ghost use Rattle.space.specs.Passes.{Passes, LiveIn};
-ghost use Rattle.vmar_user_range.specs.UserRange.{isHeld, startOf, holderOf, AllGrant, pagesIn, Tested, Stretched, verdict, checked, userRange};
+ghost use Rattle.vmar_user_range.specs.UserRange.{isHeld, startOf, AllGrant, PageOf, pagesIn, Tested, checked, userRange};
 
 const LAST: u64 = 0xffff_ffff_ffff_ffff;
 
@@ -39,21 +39,6 @@ fn is_held(m: Mapping, vaddr: VirtAddr) -> bool
         return false;
     }
     space::contains(m.addr, m.size, vaddr)
-}
-
-// The slot of the mapping that holds the address, 64 where none does.
-fn holder_of(s: Space, vaddr: VirtAddr) -> usize
-    ensures { λ i. ⌜ i ≡ holderOf s vaddr ⌝ }
-{
-    let mut i = 0;
-    while i < MAPPINGS {
-        let m = s.mappings[i];
-        if is_held(m, vaddr) {
-            return i;
-        }
-        i += 1;
-    }
-    i
 }
 
 // Whether each of the n bytes from `at` on has every flag of `access`. What is missing is gathered, so that no branch stands in the loop.
@@ -84,7 +69,7 @@ fn start_of(addr: VirtAddr, page: u64) -> VirtAddr
 
 // How many of the pages from this one to the last lie in the mapping that holds it.
 fn pages_in(m: Mapping, page: u64, last: u64) -> u64
-    requires { ⌜ (page ≤ last) × (last < 2 ^ 52) × (m .addr + m .size < 2 ^ 64) × (page < (m .addr + m .size) / 4096) ⌝ }
+    requires { ⌜ PageOf m page × (page ≤ last) × (last < 2 ^ 52) ⌝ }
     ensures { λ n. ⌜ n ≡ pagesIn m page last ⌝ }
 {
     let end = (m.addr + m.size) / PAGE_SIZE;
@@ -95,10 +80,18 @@ fn pages_in(m: Mapping, page: u64, last: u64) -> u64
 }
 
 // The pages from this one to the last as far as they lie in the mapping in this slot, which holds the first.
-fn test_pages(flags: &[u8], m: Mapping, slot: usize, page: u64, n: u64, access: MMUFlags) -> Stretch
-    requires { ⌜ (length (now flags) ≡ 32768) × (slot < 64) × (m .addr / 4096 ≤ page) × (page + n ≤ m .addr / 4096 + 512) × (0 < n) × (access .0 < 256) ⌝ }
-    ensures { λ x. ⌜ Tested (now (flags .entry)) (slot * 512 + (page - m .addr / 4096)) n (access .0) x ⌝ }
+fn test_pages(
+    flags: &[u8],
+    m: Mapping,
+    slot: usize,
+    page: u64,
+    last: u64,
+    access: MMUFlags,
+) -> Stretch
+    requires { ⌜ (length (now flags) ≡ 32768) × (slot < 64) × PageOf m page × (page ≤ last) × (last < 2 ^ 52) × (access .0 < 256) ⌝ }
+    ensures { λ x. ⌜ Tested (now (flags .entry)) (slot * 512 + (page - m .addr / 4096)) (pagesIn m page last) (access .0) x ⌝ }
 {
+    let n = pages_in(m, page, last);
     let at = slot * 512 + (page - m.addr / PAGE_SIZE) as usize;
     if !MMUFlags(flags[at] as u64).contains(MMUFlags::USER) {
         return Stretch::Refused(Refusal::NotFound);
@@ -109,33 +102,8 @@ fn test_pages(flags: &[u8], m: Mapping, slot: usize, page: u64, n: u64, access: 
     Stretch::Allowed(n)
 }
 
-fn stretch_at(
-    s: Space,
-    flags: &[u8],
-    r: usize,
-    addr: VirtAddr,
-    page: u64,
-    last: u64,
-    access: MMUFlags,
-) -> Stretch
-    requires { ⌜ LiveIn s r × Passes s (now flags) × (addr / 4096 ≤ page) × (page ≤ last) × (last < 2 ^ 52) × (knownPage (access .0) ≡ true) ⌝ }
-    ensures { λ x. ⌜ Stretched (verdict s (now (flags .entry)) r addr (access .0)) page last x ⌝ }
-{
-    let g = s.regions[r];
-    let vaddr = start_of(addr, page);
-    if !space::contains(g.addr, g.size, vaddr) {
-        return Stretch::Refused(Refusal::NotFound);
-    }
-    let slot = holder_of(s, vaddr);
-    if slot == MAPPINGS {
-        return Stretch::Refused(Refusal::NotFound);
-    }
-    let m = s.mappings[slot];
-    let n = pages_in(m, page, last);
-    test_pages(flags, m, slot, page, n, access)
-}
-
-// The pages that [addr, end], closed, touches, in region r.
+// The pages that [addr, end], closed, touches, in region r. One loop goes over the slots until one holds the page, and from its last page on again: a space that is
+// handed on is copied.
 fn check_pages(
     s: Space,
     flags: &[u8],
@@ -147,11 +115,28 @@ fn check_pages(
     requires { ⌜ LiveIn s r × Passes s (now flags) × (addr ≤ end) × (knownPage (access .0) ≡ true) ⌝ }
     ensures { λ x. ⌜ x ≡ checked s (now (flags .entry)) r addr end (access .0) ⌝ }
 {
+    let g = s.regions[r];
     let last = end / PAGE_SIZE;
     let mut page = addr / PAGE_SIZE;
+    let mut slot = 0;
     while page <= last {
-        match stretch_at(s, flags, r, addr, page, last, access) {
-            Stretch::Allowed(n) => page += n,
+        let vaddr = start_of(addr, page);
+        if slot == MAPPINGS {
+            return UserRangeResult::Refused(Refusal::NotFound);
+        }
+        let m = s.mappings[slot];
+        if !is_held(m, vaddr) {
+            slot += 1;
+            continue;
+        }
+        if !space::contains(g.addr, g.size, vaddr) {
+            return UserRangeResult::Refused(Refusal::NotFound);
+        }
+        match test_pages(flags, m, slot, page, last, access) {
+            Stretch::Allowed(n) => {
+                page += n;
+                slot = 0;
+            }
             Stretch::Refused(why) => return UserRangeResult::Refused(why),
         }
     }
