@@ -11,7 +11,9 @@ use Rattle.space.specs.Space.{regionAt, mappingAt, isRegion, isMapping, regionP
 use Rattle.space.specs.Passes.{In, Listed, Tree, Inside, Apart, Known, Ids, Blank, RootRange, Passes}
 use Rattle.space.specs.declared.Mapping.{Mapping}
 use Rattle.space.specs.declared.Space.{Space}
-use Rattle.space_check.specs.Clauses.{Places, MappingSlots, GoodRegions, GoodMappings, BothClear}
+use Rattle.space_slots.specs.Slots.{Places, MappingSlots}
+use Rattle.space_check.specs.Clauses.{GoodRegions, GoodMappings}
+use Rattle.space_pairs.specs.Pairs.{BothClear}
 
 -- a list, by its places and by what its slots say
 module _ {n : ℕ} {list : List ℕ} {count : ℕ} {lives : ℕ → Bool} (size : length list ≡ n) where

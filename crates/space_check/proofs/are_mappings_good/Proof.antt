@@ -5,7 +5,9 @@ use lib.ListN.{length}
 use denote.Ref.{now}
 use borrow.Author.Tests.{not-true, not-false}
 use Rattle.paging.proofs.Cases.{decided-true, decided-false, decide-by}
-use Rattle.space_check.specs.Clauses.{Places, AllPages, GoodMappings}
+use Rattle.space_slots.specs.Slots.{Places}
+use Rattle.space_pages.specs.Pages.{AllPages}
+use Rattle.space_check.specs.Clauses.{GoodMappings}
 use Rattle.space_check.proofs.Whole.{few}
 use borrow.Author.Needs.{needs}
 use Rattle.space_check.proofs.are_mappings_good.Statement.{statement}

@@ -4,7 +4,9 @@ use native.Mathlib.Omega.{arith}
 use lib.ListN.{length}
 use borrow.Author.Tests.{not-true, not-false}
 use Rattle.paging.proofs.Cases.{decided-true, decided-false, decide-by}
-use Rattle.space_check.specs.Clauses.{Places, RegionsClear, GoodRegions}
+use Rattle.space_slots.specs.Slots.{Places}
+use Rattle.space_pairs.specs.Pairs.{RegionsClear}
+use Rattle.space_check.specs.Clauses.{GoodRegions}
 use borrow.Author.Needs.{needs}
 use Rattle.space_check.proofs.are_regions_good.Statement.{statement}
 use Rattle.space_check.proofs.are_regions_good.Tie as tie

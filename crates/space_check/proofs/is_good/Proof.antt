@@ -5,7 +5,7 @@ use denote.Ref.{now}
 use borrow.Author.Tests.{not-true, not-false}
 use Rattle.paging.proofs.Cases.{decided-true, decided-false, decide-by}
 use Rattle.space.specs.Passes.{Passes}
-use Rattle.space_check.specs.Clauses.{BothClear}
+use Rattle.space_pairs.specs.Pairs.{BothClear}
 use Rattle.space_check.proofs.Whole.{whole, regions-of, mappings-of, both-of}
 use borrow.Author.Needs.{needs}
 use Rattle.space_check.proofs.is_good.Statement.{statement}
