@@ -12,6 +12,9 @@ use zircon_object::vm::{VmAddressRegion, VmObject, VmarFlags};
 
 const CALLS: u32 = 200;
 const RUNS: u32 = 500;
+/// The mappings, one after the other, and their pages.
+const MAPS: usize = 0x21_f000;
+const PAGES: usize = 64 * 512;
 
 fn table() -> Box<dyn GenericPageTable> {
     Box::new(PageTableImpl::<PageTableLevel4, X86PTE>::from_current())
@@ -29,16 +32,25 @@ fn map(root: &Arc<VmAddressRegion>, len: usize) -> usize {
 }
 
 /// The least time of one call, over the runs.
-fn time(name: &str, mut call: impl FnMut()) {
+fn time(name: &str, call: impl FnMut()) {
+    time_of(name, RUNS, CALLS, call);
+}
+
+/// The same of a call that takes long.
+fn time_long(name: &str, call: impl FnMut()) {
+    time_of(name, 20, 1, call);
+}
+
+fn time_of(name: &str, runs: u32, calls: u32, mut call: impl FnMut()) {
     let mut least = f64::INFINITY;
-    for _ in 0..RUNS {
+    for _ in 0..runs {
         let start = Instant::now();
-        for _ in 0..CALLS {
+        for _ in 0..calls {
             call();
         }
         least = least.min(start.elapsed().as_secs_f64());
     }
-    println!("{:<44} {:.2} µs", name, least / f64::from(CALLS) * 1e6);
+    println!("{:<52} {:.2} µs", name, least / f64::from(calls) * 1e6);
 }
 
 fn main() {
@@ -72,6 +84,22 @@ fn main() {
     });
     time("get_mapping_flags of the last mapping", || {
         assert!(std::hint::black_box(&root).get_mapping_flags(0x821_e000).is_ok());
+    });
+    time("check_user_range of one page", || {
+        assert!(std::hint::black_box(&root).check_user_range(0x821_e000, 0x1000, MMUFlags::READ).is_ok());
+    });
+    time_long("check_user_range of all 64 mappings", || {
+        assert!(std::hint::black_box(&root).check_user_range(MAPS, PAGES * 0x1000, MMUFlags::READ).is_ok());
+    });
+    time_long("check_user_range of 2^63 bytes, refused after them", || {
+        assert!(std::hint::black_box(&root).check_user_range(MAPS, 1 << 63, MMUFlags::READ).is_err());
+    });
+    // not the first page, which touches a child
+    time("protect of one page", || {
+        assert!(root.protect(MAPS + 0x1000, 0x1000, MMUFlags::READ).is_ok());
+    });
+    time_long("protect of all pages but the first", || {
+        assert!(root.protect(MAPS + 0x1000, (PAGES - 1) * 0x1000, MMUFlags::READ).is_ok());
     });
     std::mem::forget(root);
 }

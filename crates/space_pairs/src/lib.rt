@@ -4,7 +4,6 @@ use space::Mapping;
 use space::REGIONS;
 use space::Region;
 use space::Space;
-ghost use Prim.Native.Nat.{_<_};
 ghost use Rattle.paging.specs.Choice.{Decided};
 ghost use Rattle.space_pairs.specs.Pairs.{RegionsApart, RegionsClear, MappingsApart, MappingsClear, BothApart, BothClear};
 
