@@ -1,4 +1,4 @@
-//! Times calls of the Rust on the space that crates/space_bench makes: a root with 31 children of a page and 64 mappings of 512 pages.
+//! Times calls of the Rust on a space as tests/bench/calls makes it: a root with 31 children of a page and 64 mappings of 512 pages.
 //! docs/TIMES.md says how to read it.
 use std::sync::Arc;
 use std::time::Instant;
