@@ -69,3 +69,12 @@ only (refused n e) (refused m f) = e ∙ sym f
 only (refused n e) (taken p f) = absurd (n p)
 only (taken p e) (refused n f) = absurd (n p)
 only (taken p e) (taken q f) = e ∙ sym f
+
+-- no two values look the same through f
+abbrev pub OneToOne : {A B : Type 0} → (A → B) → Type 0
+OneToOne {A} f = (a b : A) → f a ≡ f b → a ≡ b
+
+-- an answer seen through such a function is the answer itself
+pub answered-by : {A B P : Type 0} (f : A → B) → OneToOne f → (no′ yes′ out : A) → Answered P (f no′) (f yes′) (f out) → Answered P no′ yes′ out
+answered-by f once no′ yes′ out (refused n e) = refused n (once out no′ e)
+answered-by f once no′ yes′ out (taken p e) = taken p (once out yes′ e)
