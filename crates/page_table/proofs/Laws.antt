@@ -17,8 +17,8 @@ use Rattle.paging.specs.Table.{view}
 use Rattle.common.specs.declared.vm.PageSize.{PageSize}
 use Rattle.common.specs.declared.vm.PageSize.the-variants.{Size4K, Size2M, Size1G}
 use Rattle.refusal.specs.declared.Refusal.{Refusal}
-use Rattle.refusal.specs.declared.Refusal.the-variants.{InvalidArgs, AccessDenied, NoMemory, NotFound, BadState, NotMapped, AlreadyMapped, NoFrames, NothingThere, NoSlot, BadHandle, BadSpace, BadTable, ChildDead, BadAddress}
-use Rattle.page_table.specs.Replies.{refusal}
+use Rattle.refusal.specs.declared.Refusal.the-variants.{InvalidArgs, BadTable, BadAddress}
+use Rattle.refusal.proofs.Replies.{positive}
 use Rattle.table.specs.Table.{unmapped, Unmapping, newWord, updated, Updating}
 use Rattle.table.specs.declared.UnmapResult.the-variants as unmap
 use Rattle.table.specs.declared.UpdateResult.the-variants as update
@@ -28,8 +28,9 @@ use Rattle.table_map.specs.Map.{leafFor, mapped, Mapping}
 use Rattle.table_map.specs.declared.MapResult.the-variants as map
 use Rattle.table_laws.proofs.Effects.{unmap-refused, update-refused, map-refused, effects}
 use Rattle.table_laws.specs.Effects.{showsIn, Rewrites, Adds}
-use Rattle.page_table.specs.Calls.{UnmapFits, UpdateFits, MapFits, inRule, placed, knownNew, unmapCall, unmapRefused, updateCall, updateRefused, mapCall, mapRefused}
+use Rattle.page_table.specs.Calls.{inRule, placed, knownNew, unmapCall, unmapRefused, updateCall, updateRefused, mapCall, mapRefused}
 use Rattle.page_table.specs.Laws.{Laws}
+use Rattle.page_table.proofs.Replies.{query-once, unmap-once, update-once, map-once, UnmapIs, unmap-is, UpdateIs, update-is, MapIs, map-is}
 
 -- the two ranges of the rule
 pub data Ruled (v : ℕ) : Type 0 where
@@ -61,23 +62,6 @@ leaves Size2M x v (upper h k) e = upper (omega arith) (omega arith)
 leaves Size1G x v (lower h) e = lower (omega arith)
 leaves Size1G x v (upper h k) e = upper (omega arith) (omega arith)
 
-refusals : (r : Refusal) → 0 < refusal r .number
-refusals InvalidArgs = omega arith
-refusals AccessDenied = omega arith
-refusals NoMemory = omega arith
-refusals NotFound = omega arith
-refusals BadState = omega arith
-refusals NotMapped = omega arith
-refusals AlreadyMapped = omega arith
-refusals NoFrames = omega arith
-refusals NothingThere = omega arith
-refusals NoSlot = omega arith
-refusals BadHandle = omega arith
-refusals BadSpace = omega arith
-refusals BadTable = omega arith
-refusals ChildDead = omega arith
-refusals BadAddress = omega arith
-
 module _ (p : List ℕ) (base used v : ℕ) where
   unmap-call : (r : Refusal) → unmapCall p base v .result ≡ unmap.Refused r → unmapCall p base v .pool ≡ p
   unmap-call r = go (inRule v)
@@ -105,20 +89,20 @@ module _ (p : List ℕ) (base used v : ℕ) where
       go true false x h = refl
       go false t x h = refl
 
-  unmap-keeps : (r : Refusal) (o : Unmapping) → UnmapFits p base used v o → o .result ≡ unmap.Refused r → o .pool ≡ p
+  unmap-keeps : (r : Refusal) (o : Unmapping) → UnmapIs p base used v o → o .result ≡ unmap.Refused r → o .pool ≡ p
   unmap-keeps r o (refused n e) h = ap (λ (u : Unmapping). u .pool) e
   unmap-keeps r o (taken g e) h = ap (λ (u : Unmapping). u .pool) e ∙ unmap-call r (sym (ap (λ (u : Unmapping). u .result) e) ∙ h)
 
-  update-keeps : (n : NewAddr) (f : NewFlags) (r : Refusal) (o : Updating) → UpdateFits p base used v n f o → o .result ≡ update.Refused r → o .pool ≡ p
+  update-keeps : (n : NewAddr) (f : NewFlags) (r : Refusal) (o : Updating) → UpdateIs p base used v n f o → o .result ≡ update.Refused r → o .pool ≡ p
   update-keeps n f r o (refused m e) h = ap (λ (u : Updating). u .pool) e
   update-keeps n f r o (taken g e) h = ap (λ (u : Updating). u .pool) e ∙ update-call n f r (sym (ap (λ (u : Updating). u .result) e) ∙ h)
 
-  map-keeps : (pa : ℕ) (s : PageSize) (f : ℕ) (r : Refusal) (o : Mapping) → MapFits p base used v pa s f o → o .result ≡ map.Refused r → o .pool ≡ p
+  map-keeps : (pa : ℕ) (s : PageSize) (f : ℕ) (r : Refusal) (o : Mapping) → MapIs p base used v pa s f o → o .result ≡ map.Refused r → o .pool ≡ p
   map-keeps pa s f r o (refused m e) h = ap (λ (u : Mapping). u .pool) e
   map-keeps pa s f r o (taken g e) h = ap (λ (u : Mapping). u .pool) e ∙ map-call pa s f r (sym (ap (λ (u : Mapping). u .result) e) ∙ h)
 
   -- an accepted outcome is the core's, with the arguments that the tests let pass
-  unmap-means : (a : ℕ) (s : PageSize) (o : Unmapping) → UnmapFits p base used v o → o .result ≡ unmap.Unmapped a s → Rewrites p (o .pool) base used v (levelOf s) 0
+  unmap-means : (a : ℕ) (s : PageSize) (o : Unmapping) → UnmapIs p base used v o → o .result ≡ unmap.Unmapped a s → Rewrites p (o .pool) base used v (levelOf s) 0
   unmap-means a s o (refused n e) h =
       let none : unmap.Refused BadTable ≡ unmap.Unmapped a s = sym (ap (λ (u : Unmapping). u .result) e) ∙ h in
       let z : _≡_ {A = ℕ} 0 1 = cc in
@@ -133,7 +117,7 @@ module _ (p : List ℕ) (base used v : ℕ) where
   UpdateMeans : NewAddr → NewFlags → PageSize → List ℕ → Type 0
   UpdateMeans n f s q = (w : ℕ) × (showsIn p base v ≡ view (levelOf s) w) × Rewrites p q base used v (levelOf s) (newWord w s n f)
 
-  update-means : (n : NewAddr) (f : NewFlags) (s : PageSize) (o : Updating) → UpdateFits p base used v n f o → o .result ≡ update.Updated s → UpdateMeans n f s (o .pool)
+  update-means : (n : NewAddr) (f : NewFlags) (s : PageSize) (o : Updating) → UpdateIs p base used v n f o → o .result ≡ update.Updated s → UpdateMeans n f s (o .pool)
   unfolding UpdateMeans
   update-means n f s o (refused m e) h =
       let none : update.Refused BadTable ≡ update.Updated s = sym (ap (λ (u : Updating). u .result) e) ∙ h in
@@ -154,7 +138,7 @@ module _ (p : List ℕ) (base used v : ℕ) where
       go true e = omega (arith, leb-true pa (2 ^ 52 - sizeOf s) e, size-le s)
       go false e = no-truth e
 
-  map-means : (pa : ℕ) (s : PageSize) (f used′ : ℕ) (o : Mapping) → MapFits p base used v pa s f o → o .result ≡ map.Mapped used′ → Adds p (o .pool) base used′ v (levelOf s) (leafFor s pa f)
+  map-means : (pa : ℕ) (s : PageSize) (f used′ : ℕ) (o : Mapping) → MapIs p base used v pa s f o → o .result ≡ map.Mapped used′ → Adds p (o .pool) base used′ v (levelOf s) (leafFor s pa f)
   map-means pa s f used′ o (refused m e) h =
       let none : map.Refused BadTable ≡ map.Mapped used′ = sym (ap (λ (u : Mapping). u .result) e) ∙ h in
       let z : _≡_ {A = ℕ} 0 1 = cc in
@@ -174,17 +158,17 @@ module _ (p : List ℕ) (base used v : ℕ) where
   pub laws : Laws p base used v
   unfolding UpdateMeans
   laws = record {
-    query-once = λ a b. only;
-    unmap-once = λ a b. only;
-    update-once = λ n f a b. only;
-    map-once = λ pa s f a b. only;
-    refusals = refusals;
-    unmap-keeps = unmap-keeps;
-    update-keeps = update-keeps;
-    map-keeps = map-keeps;
-    unmap-means = unmap-means;
-    update-means = update-means;
-    map-means = map-means;
+    query-once = λ a b x y. query-once a b (only x y);
+    unmap-once = λ a b x y. unmap-once a b (only x y);
+    update-once = λ n f a b x y. update-once a b (only x y);
+    map-once = λ pa s f a b x y. map-once used a b (only x y);
+    refusals = positive;
+    unmap-keeps = λ r o x. unmap-keeps r o (unmap-is p base used v o x);
+    update-keeps = λ n f r o x. update-keeps n f r o (update-is p base used v n f o x);
+    map-keeps = λ pa s f r o x. map-keeps pa s f r o (map-is p base used v pa s f o x);
+    unmap-means = λ a s o x. unmap-means a s o (unmap-is p base used v o x);
+    update-means = λ n f s o x. update-means n f s o (update-is p base used v n f o x);
+    map-means = λ pa s f used′ o x. map-means pa s f used′ o (map-is p base used v pa s f o x);
     halves = λ h. halves v (ruled v h);
     leaves = λ s x h e. in-rule x (leaves s x v (ruled v h) e);
   }

@@ -10,7 +10,8 @@ use Rattle.common.specs.Page.{sizeOf, aligned}
 use Rattle.common.specs.declared.vm.PageSize.{PageSize}
 use Rattle.form.specs.Form.{Good}
 use Rattle.refusal.specs.declared.Refusal.{Refusal}
-use Rattle.refusal.specs.declared.Refusal.the-variants.{InvalidArgs, BadTable, BadAddress}
+use Rattle.refusal.specs.declared.Refusal.the-variants.{InvalidArgs, BadAddress}
+use Rattle.refusal.specs.Reply.{refusing, refused}
 use Rattle.table.specs.Table.{queried, unmapped, Unmapping, updated, Updating}
 use Rattle.table.specs.declared.QueryResult.{QueryResult}
 use Rattle.table.specs.declared.QueryResult.the-variants as query
@@ -21,6 +22,7 @@ use Rattle.table.specs.declared.NewFlags.{NewFlags}
 use Rattle.table.specs.declared.NewFlags.the-variants as flags
 use Rattle.table_map.specs.Map.{mapped, Mapping}
 use Rattle.table_map.specs.declared.MapResult.the-variants as map
+use Rattle.page_table.specs.Replies.{queryReply, unmapTold, updateTold, mapTold}
 
 -- "a single address, the leaf at it .. lies in [0, 2^47) or in [0xffff800000000000, 0xffffffffc0000000)"
 abbrev pub inRule : ℕ → Bool
@@ -63,16 +65,17 @@ mapCall p base used v pa s f =
     (pick (inRule v) (pick (placed v pa s) (mapped p (base / 4096) used v pa s f) (mapRefused p InvalidArgs)) (mapRefused p BadAddress))
     (mapRefused p InvalidArgs)
 
--- The promises: an outcome fits where the pool is good and it is the call's, or the pool is not and it is 13.
+-- The promises: an outcome fits where the pool is good and it tells what the call does, or the pool is not and it tells 13. Where `query` is concerned that is
+-- its reply alone, since the pool is lent to be read.
 module _ (p : List ℕ) (base used : ℕ) where
   abbrev pub QueryFits : ℕ → QueryResult → Type 0
-  QueryFits v o = Answered (Good p base used) (queryRefused BadTable) (queryCall p base v) o
+  QueryFits v o = Answered (Good p base used) (refusing 13) (queryReply (queryCall p base v)) (queryReply o)
 
   abbrev pub UnmapFits : ℕ → Unmapping → Type 0
-  UnmapFits v o = Answered (Good p base used) (unmapRefused p BadTable) (unmapCall p base v) o
+  UnmapFits v o = Answered (Good p base used) (refused 13 p) (unmapTold (unmapCall p base v)) (unmapTold o)
 
   abbrev pub UpdateFits : ℕ → NewAddr → NewFlags → Updating → Type 0
-  UpdateFits v n f o = Answered (Good p base used) (updateRefused p BadTable) (updateCall p base v n f) o
+  UpdateFits v n f o = Answered (Good p base used) (refused 13 p) (updateTold (updateCall p base v n f)) (updateTold o)
 
   abbrev pub MapFits : ℕ → ℕ → PageSize → ℕ → Mapping → Type 0
-  MapFits v pa s f o = Answered (Good p base used) (mapRefused p BadTable) (mapCall p base used v pa s f) o
+  MapFits v pa s f o = Answered (Good p base used) (refused 13 (p, used)) (mapTold used (mapCall p base used v pa s f)) (mapTold used o)

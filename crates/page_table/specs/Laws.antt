@@ -7,6 +7,7 @@ use Rattle.paging.specs.Level.{Canonical}
 use Rattle.paging.specs.Table.{view}
 use Rattle.common.specs.Page.{levelOf, sizeOf}
 use Rattle.common.specs.declared.vm.PageSize.{PageSize}
+use Rattle.refusal.specs.Reply.{refusal}
 use Rattle.refusal.specs.declared.Refusal.{Refusal}
 use Rattle.table.specs.Table.{Unmapping, newWord, Updating}
 use Rattle.table.specs.declared.QueryResult.{QueryResult}
@@ -17,7 +18,6 @@ use Rattle.table.specs.declared.NewFlags.{NewFlags}
 use Rattle.table_map.specs.Map.{leafFor, Mapping}
 use Rattle.table_laws.specs.Effects.{showsIn, Rewrites, Adds}
 use Rattle.table_map.specs.declared.MapResult.the-variants as map
-use Rattle.page_table.specs.Replies.{refusal}
 use Rattle.page_table.specs.Calls.{inRule, QueryFits, UnmapFits, UpdateFits, MapFits}
 
 pub record Laws (p : List ℕ) (base used v : ℕ) : Type 0 where

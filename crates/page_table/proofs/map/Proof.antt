@@ -1,6 +1,6 @@
 -- `map`: 13, unknown flags, 15, the arguments, then the core.
 use Prim.Native.Nat.{_-_}
-use mathlib.Core.Path.{_≡_, refl, sym, _∙_}
+use mathlib.Core.Path.{_≡_, refl, sym, ap, _∙_}
 use mathlib.Core.Bool.{true}
 use denote.Ref.{now}
 use borrow.Author.Needs.{needs}
@@ -9,6 +9,7 @@ use Rattle.paging.specs.Choice.{refused, taken}
 use Rattle.paging.proofs.Cases.{decided-true, decided-false}
 use Rattle.form.specs.Form.{Good}
 use Rattle.common.specs.Flags.{knownPage}
+use Rattle.page_table.specs.Replies.{mapTold}
 use Rattle.page_table.specs.Calls.{inRule, placed}
 use Rattle.page_table.proofs.Calls.{map-unknown, map-out, map-misplaced, map-core}
 use Rattle.page_table.proofs.map.Statement.{statement}
@@ -46,7 +47,7 @@ returns-2 : tie.Need-returns-2
 returns-2 c =
     let k = c .before .before in
     let a = k .before .before .before .before .args in
-    taken (good k) (map-unknown (now (a .pool)) (a .base) (a .vaddr) (a .used) (a .paddr) (a .size) (a .flags .0) (sym (c .before .is-known .ensures) ∙ not-true _ (c .if2 .taken)))
+    taken (good k) (ap (mapTold (a .used)) (map-unknown (now (a .pool)) (a .base) (a .vaddr) (a .used) (a .paddr) (a .size) (a .flags .0) (sym (c .before .is-known .ensures) ∙ not-true _ (c .if2 .taken))))
 
 is-in-rule-requires : tie.Need-is-in-rule-requires
 is-in-rule-requires c κs = search needs
@@ -59,7 +60,7 @@ returns-3 c =
     let j = c .before .before in
     let k = j .before .before in
     let a = k .before .before .before .before .args in
-    taken (good k) (map-out (now (a .pool)) (a .base) (a .vaddr) (a .used) (a .paddr) (a .size) (a .flags .0) (known j) (sym (c .before .is-in-rule .ensures) ∙ not-true _ (c .if3 .taken)))
+    taken (good k) (ap (mapTold (a .used)) (map-out (now (a .pool)) (a .base) (a .vaddr) (a .used) (a .paddr) (a .size) (a .flags .0) (known j) (sym (c .before .is-in-rule .ensures) ∙ not-true _ (c .if3 .taken))))
 
 is-placed-requires : tie.Need-is-placed-requires
 is-placed-requires c κs = search needs
@@ -73,7 +74,7 @@ returns-4 c =
     let j = i .before .before in
     let k = j .before .before in
     let a = k .before .before .before .before .args in
-    taken (good k) (map-misplaced (now (a .pool)) (a .base) (a .vaddr) (a .used) (a .paddr) (a .size) (a .flags .0) (known j) (ruled i) (sym (c .before .is-placed .ensures) ∙ not-true _ (c .if4 .taken)))
+    taken (good k) (ap (mapTold (a .used)) (map-misplaced (now (a .pool)) (a .base) (a .vaddr) (a .used) (a .paddr) (a .size) (a .flags .0) (known j) (ruled i) (sym (c .before .is-placed .ensures) ∙ not-true _ (c .if4 .taken))))
 
 map-requires : tie.Need-map-requires
 map-requires c κs = good (c .before .before .before .before .before .before .before)
@@ -88,7 +89,7 @@ returns-5 c =
     let j = i .before .before in
     let k = j .before .before in
     let a = k .before .before .before .before .args in
-    taken (good k) (c .before .before .map .ensures ∙ map-core (now (a .pool)) (a .base) (a .vaddr) (a .used) (a .paddr) (a .size) (a .flags .0) (known j) (ruled i) (fit h))
+    taken (good k) (ap (mapTold (a .used)) (c .before .before .map .ensures ∙ map-core (now (a .pool)) (a .base) (a .vaddr) (a .used) (a .paddr) (a .size) (a .flags .0) (known j) (ruled i) (fit h)))
 
 pub map-spec : {M : Type 1} → statement M
 map-spec =

@@ -1,6 +1,6 @@
 -- `unmap`: 13, 15, then the core.
 use Prim.Native.Nat.{_-_}
-use mathlib.Core.Path.{_≡_, refl, sym, _∙_}
+use mathlib.Core.Path.{_≡_, refl, sym, ap, _∙_}
 use mathlib.Core.Bool.{true}
 use denote.Ref.{now}
 use borrow.Author.Needs.{needs}
@@ -8,6 +8,7 @@ use borrow.Author.Tests.{not-true, not-false}
 use Rattle.paging.specs.Choice.{refused, taken}
 use Rattle.paging.proofs.Cases.{decided-true, decided-false}
 use Rattle.form.specs.Form.{Good}
+use Rattle.page_table.specs.Replies.{unmapTold}
 use Rattle.page_table.specs.Calls.{inRule}
 use Rattle.page_table.proofs.Calls.{unmap-out, unmap-core}
 use Rattle.page_table.proofs.unmap.Statement.{statement}
@@ -39,7 +40,7 @@ returns-2 : tie.Need-returns-2
 returns-2 c =
     let k = c .before .before in
     let a = k .before .before .before .before .args in
-    taken (good k) (unmap-out (now (a .pool)) (a .base) (a .vaddr) (sym (c .before .is-in-rule .ensures) ∙ not-true _ (c .if2 .taken)))
+    taken (good k) (ap unmapTold (unmap-out (now (a .pool)) (a .base) (a .vaddr) (sym (c .before .is-in-rule .ensures) ∙ not-true _ (c .if2 .taken))))
 
 unmap-requires : tie.Need-unmap-requires
 unmap-requires c κs = good (c .before .before .before)
@@ -51,7 +52,7 @@ returns-3 : tie.Need-returns-3
 returns-3 c =
     let k = c .before .before .before .before in
     let a = k .before .before .before .before .before .before .args in
-    taken (good (k .before .before)) (c .before .before .unmap .ensures ∙ unmap-core (now (a .pool)) (a .base) (a .vaddr) (ruled k))
+    taken (good (k .before .before)) (ap unmapTold (c .before .before .unmap .ensures ∙ unmap-core (now (a .pool)) (a .base) (a .vaddr) (ruled k)))
 
 pub unmap-spec : {M : Type 1} → statement M
 unmap-spec =

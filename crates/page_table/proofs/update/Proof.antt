@@ -1,6 +1,6 @@
 -- `update`: 13, unknown flags, 15, then the core.
 use Prim.Native.Nat.{_-_}
-use mathlib.Core.Path.{_≡_, refl, sym, _∙_}
+use mathlib.Core.Path.{_≡_, refl, sym, ap, _∙_}
 use mathlib.Core.Bool.{true}
 use denote.Ref.{now}
 use borrow.Author.Needs.{needs}
@@ -8,6 +8,7 @@ use borrow.Author.Tests.{not-true, not-false}
 use Rattle.paging.specs.Choice.{refused, taken}
 use Rattle.paging.proofs.Cases.{decided-true, decided-false}
 use Rattle.form.specs.Form.{Good}
+use Rattle.page_table.specs.Replies.{updateTold}
 use Rattle.page_table.specs.Calls.{inRule, knownNew}
 use Rattle.page_table.proofs.Calls.{update-unknown, update-out, update-core}
 use Rattle.page_table.proofs.update.Statement.{statement}
@@ -42,7 +43,7 @@ returns-2 : tie.Need-returns-2
 returns-2 c =
     let k = c .before .before in
     let a = k .before .before .before .before .args in
-    taken (good k) (update-unknown (now (a .pool)) (a .base) (a .vaddr) (a .paddr) (a .flags) (sym (c .before .is-known-new .ensures) ∙ not-true _ (c .if2 .taken)))
+    taken (good k) (ap updateTold (update-unknown (now (a .pool)) (a .base) (a .vaddr) (a .paddr) (a .flags) (sym (c .before .is-known-new .ensures) ∙ not-true _ (c .if2 .taken))))
 
 is-in-rule-requires : tie.Need-is-in-rule-requires
 is-in-rule-requires c κs = search needs
@@ -55,7 +56,7 @@ returns-3 c =
     let j = c .before .before in
     let k = j .before .before in
     let a = k .before .before .before .before .args in
-    taken (good k) (update-out (now (a .pool)) (a .base) (a .vaddr) (a .paddr) (a .flags) (known j) (sym (c .before .is-in-rule .ensures) ∙ not-true _ (c .if3 .taken)))
+    taken (good k) (ap updateTold (update-out (now (a .pool)) (a .base) (a .vaddr) (a .paddr) (a .flags) (known j) (sym (c .before .is-in-rule .ensures) ∙ not-true _ (c .if3 .taken))))
 
 update-requires : tie.Need-update-requires
 update-requires c κs = good (c .before .before .before .before .before)
@@ -69,7 +70,7 @@ returns-4 c =
     let j = i .before .before in
     let k = j .before .before in
     let a = k .before .before .before .before .args in
-    taken (good k) (c .before .before .update .ensures ∙ update-core (now (a .pool)) (a .base) (a .vaddr) (a .paddr) (a .flags) (known j) (ruled i))
+    taken (good k) (ap updateTold (c .before .before .update .ensures ∙ update-core (now (a .pool)) (a .base) (a .vaddr) (a .paddr) (a .flags) (known j) (ruled i)))
 
 pub update-spec : {M : Type 1} → statement M
 update-spec =
