@@ -24,11 +24,13 @@ use Rattle.table_unmap_cont.specs.declared.UnmapContResult.the-variants as cut
 use Rattle.table_unmap_cont.proofs.Calls as cont
 use Rattle.table_unmap_cont.proofs.Demand.{demands}
 use Rattle.page_table.specs.Calls.{mapRefused}
+use Rattle.page_table.proofs.Replies.{map-once}
 use Rattle.generic_page_table.specs.Rules.{rangeInRule, pageAligned, physicalFits}
-use Rattle.generic_page_table.specs.Calls.{mapContCall, MapContFits, unmapContRefused, unmapContCall, UnmapContFits}
+use Rattle.generic_page_table.specs.Calls.{mapContCall, unmapContRefused, unmapContCall}
 use Rattle.generic_page_table.specs.Laws.{Laws}
 use Rattle.generic_page_table.proofs.Rules.{halves, start, whole, only, pages, range}
 use Rattle.generic_page_table.proofs.Calls.{cut-core}
+use Rattle.generic_page_table.proofs.Replies.{unmap-cont-once, MapContIs, map-cont-is, UnmapContIs, unmap-cont-is}
 
 -- a refusal is no success, and a success tells the frames taken
 no-cut : {r : Refusal} {t : ℕ} → cut.Refused r ≡ cut.Unmapped t → ⊥
@@ -52,7 +54,7 @@ module _ (p : List ℕ) (base used v n : ℕ) where
       go true false a e h = refl
       go false r a e h = refl
 
-  map-cont-keeps : (pa f : ℕ) (r : Refusal) (o : Mapping) → MapContFits p base used v n pa f o → o .result ≡ Refused r → o .pool ≡ p
+  map-cont-keeps : (pa f : ℕ) (r : Refusal) (o : Mapping) → MapContIs p base used v n pa f o → o .result ≡ Refused r → o .pool ≡ p
   map-cont-keeps pa f r o (refused m e) h = ap (λ (u : Mapping). u .pool) e
   map-cont-keeps pa f r o (taken g e) h = ap (λ (u : Mapping). u .pool) e ∙ call-keeps pa f r (sym (ap (λ (u : Mapping). u .result) e) ∙ h)
 
@@ -68,7 +70,7 @@ module _ (p : List ℕ) (base used v n : ℕ) where
       go true false a e x y z h = not-both h
       go false r a e x y z h = not-both h
 
-  map-cont-means : (pa f used′ : ℕ) (o : Mapping) → MapContFits p base used v n pa f o → o .result ≡ Mapped used′ → MapsRange p (o .pool) base used used′ v n pa f
+  map-cont-means : (pa f used′ : ℕ) (o : Mapping) → MapContIs p base used v n pa f o → o .result ≡ Mapped used′ → MapsRange p (o .pool) base used used′ v n pa f
   map-cont-means pa f used′ o (refused m e) h = not-both (sym (ap (λ (u : Mapping). u .result) e) ∙ h)
   map-cont-means pa f used′ o (taken g e) h =
       subst (λ (q : List ℕ). MapsRange p q base used used′ v n pa f) (sym (ap (λ (u : Mapping). u .pool) e)) (call-means pa f used′ g (sym (ap (λ (u : Mapping). u .result) e) ∙ h))
@@ -77,7 +79,7 @@ module _ (p : List ℕ) (base used v n : ℕ) where
   abbrev cut-tested : Bool → Bool → ContUnmapping
   cut-tested r a = pick r (pick a (unmapCont p (base / 4096) used v n) (unmapContRefused p InvalidArgs)) (unmapContRefused p BadAddress)
 
-  unmap-cont-keeps : (r : Refusal) (o : ContUnmapping) → UnmapContFits p base used v n o → o .result ≡ cut.Refused r → o .pool ≡ p
+  unmap-cont-keeps : (r : Refusal) (o : ContUnmapping) → UnmapContIs p base used v n o → o .result ≡ cut.Refused r → o .pool ≡ p
   unmap-cont-keeps r o (refused m e) h = ap (λ (u : ContUnmapping). u .pool) e
   unmap-cont-keeps r o (taken g e) h = ap (λ (u : ContUnmapping). u .pool) e ∙ go (rangeInRule v n) (pageAligned v n) (sym (ap (λ (u : ContUnmapping). u .result) e) ∙ h)
     where
@@ -86,9 +88,9 @@ module _ (p : List ℕ) (base used v n : ℕ) where
       go true false q = refl
       go false a q = refl
 
-  module _ (o : ContUnmapping) (fits : UnmapContFits p base used v n o) (G : Good p base used) (r : rangeInRule v n ≡ true) (a : pageAligned v n ≡ true) where
+  module _ (o : ContUnmapping) (is : UnmapContIs p base used v n o) (G : Good p base used) (r : rangeInRule v n ≡ true) (a : pageAligned v n ≡ true) where
     outcome : o ≡ unmapCont p (base / 4096) used v n
-    outcome = cases.only fits (taken G (cut-core p base used v n r a))
+    outcome = cases.only is (taken G (cut-core p base used v n r a))
 
     D : Demand p base used v n
     D = let q = pages v n a in demands .holds p base used v n G (q .0) (q .1) (halves v n r)
@@ -107,7 +109,7 @@ module _ (p : List ℕ) (base used v n : ℕ) where
         (q, subst (λ (w : List ℕ). CutOut p w base used (used + t) v (v + n)) (sym (ap (λ (u : ContUnmapping). u .pool) outcome)) (rw q (D .carried l .1))))
         (below? (free p used) (framesFor p base v (v + n)))
 
-  unmap-cont-means : (t : ℕ) (o : ContUnmapping) → UnmapContFits p base used v n o → o .result ≡ cut.Unmapped t
+  unmap-cont-means : (t : ℕ) (o : ContUnmapping) → UnmapContIs p base used v n o → o .result ≡ cut.Unmapped t
       → (t ≡ framesFor p base v (v + n)) × CutOut p (o .pool) base used (used + t) v (v + n)
   unmap-cont-means t o (refused m e) h = absurd (no-cut (sym (ap (λ (u : ContUnmapping). u .result) e) ∙ h))
   unmap-cont-means t o (taken G e) h = go (rangeInRule v n) (pageAligned v n) refl refl
@@ -122,14 +124,14 @@ module _ (p : List ℕ) (base used v n : ℕ) where
 
   pub laws : Laws p base used v n
   laws = record {
-    map-cont-once = λ pa f a b. cases.only;
-    map-cont-keeps = map-cont-keeps;
-    map-cont-means = map-cont-means;
-    unmap-cont-once = λ a b. cases.only;
-    unmap-cont-keeps = unmap-cont-keeps;
-    unmap-cont-means = unmap-cont-means;
-    unmap-cont-short = unmap-cont-short;
-    unmap-cont-done = unmap-cont-done;
+    map-cont-once = λ pa f a b x y. map-once used a b (cases.only x y);
+    map-cont-keeps = λ pa f r o x. map-cont-keeps pa f r o (map-cont-is p base used v n pa f o x);
+    map-cont-means = λ pa f used′ o x. map-cont-means pa f used′ o (map-cont-is p base used v n pa f o x);
+    unmap-cont-once = λ a b x y. unmap-cont-once a b (cases.only x y);
+    unmap-cont-keeps = λ r o x. unmap-cont-keeps r o (unmap-cont-is p base used v n o x);
+    unmap-cont-means = λ t o x. unmap-cont-means t o (unmap-cont-is p base used v n o x);
+    unmap-cont-short = λ o x. unmap-cont-short o (unmap-cont-is p base used v n o x);
+    unmap-cont-done = λ o x. unmap-cont-done o (unmap-cont-is p base used v n o x);
     halves = halves v n;
     start = start v;
     whole = whole v n;

@@ -1,3 +1,4 @@
 pub mod Rules
 pub mod Calls
+pub mod Replies
 pub mod Laws

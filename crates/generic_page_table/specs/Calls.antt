@@ -6,14 +6,15 @@ use Rattle.paging.specs.Choice.{pick, Answered}
 use Rattle.common.specs.Flags.{knownPage}
 use Rattle.form.specs.Form.{Good}
 use Rattle.refusal.specs.declared.Refusal.{Refusal}
-use Rattle.refusal.specs.declared.Refusal.the-variants.{InvalidArgs, BadTable, BadAddress}
+use Rattle.refusal.specs.declared.Refusal.the-variants.{InvalidArgs, BadAddress}
+use Rattle.refusal.specs.Reply.{Reply, success, refusal, Told, refused}
 use Rattle.table_map.specs.Map.{Mapping}
 use Rattle.table_map_cont.specs.MapCont.{mapCont}
 use Rattle.table_unmap_cont.specs.UnmapCont.{unmapCont, ContUnmapping}
 use Rattle.table_unmap_cont.specs.declared.UnmapContResult.{UnmapContResult}
 use Rattle.table_unmap_cont.specs.declared.UnmapContResult.the-variants.{Unmapped, Refused}
 use Rattle.page_table.specs.Calls.{mapRefused}
-use Rattle.page_table.specs.Replies.{Reply, refusal, success}
+use Rattle.page_table.specs.Replies.{mapTold}
 use Rattle.generic_page_table.specs.Rules.{rangeInRule, pageAligned, physicalFits}
 
 abbrev pub mapContCall : List ℕ → ℕ → ℕ → ℕ → ℕ → ℕ → ℕ → Mapping
@@ -34,16 +35,20 @@ unmapContCall p base used v n =
     (pick (pageAligned v n) (unmapCont p (base / 4096) used v n) (unmapContRefused p InvalidArgs))
     (unmapContRefused p BadAddress)
 
--- its number and value: the frames taken
+-- document 01's number and value: the frames taken
 abbrev pub unmapContReply : UnmapContResult → Reply
 unmapContReply (Unmapped n) = success (n ∷ [])
 unmapContReply (Refused r) = refusal r
 
--- The promises: an outcome fits where the pool is good and it is the call's, or the pool is not and it is 13. `map_cont`'s
--- number and value are those of a single map (page_table/specs/Replies, `mapReply`).
+-- that reply, and the pool afterwards
+abbrev pub unmapContTold : ContUnmapping → Told (List ℕ)
+unmapContTold o = record { reply = unmapContReply (o .result); after = o .pool }
+
+-- The promises: an outcome fits where the pool is good and it tells what the call does, or the pool is not and it tells 13. `map_cont` tells what a single map does
+-- (page_table/specs/Replies, `mapTold`).
 module _ (p : List ℕ) (base used : ℕ) where
   abbrev pub MapContFits : ℕ → ℕ → ℕ → ℕ → Mapping → Type 0
-  MapContFits v n pa f o = Answered (Good p base used) (mapRefused p BadTable) (mapContCall p base used v n pa f) o
+  MapContFits v n pa f o = Answered (Good p base used) (refused 13 (p, used)) (mapTold used (mapContCall p base used v n pa f)) (mapTold used o)
 
   abbrev pub UnmapContFits : ℕ → ℕ → ContUnmapping → Type 0
-  UnmapContFits v n o = Answered (Good p base used) (unmapContRefused p BadTable) (unmapContCall p base used v n) o
+  UnmapContFits v n o = Answered (Good p base used) (refused 13 p) (unmapContTold (unmapContCall p base used v n)) (unmapContTold o)

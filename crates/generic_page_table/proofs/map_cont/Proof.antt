@@ -1,5 +1,5 @@
 -- `map_cont`: 13, unknown flags, 15, the arguments, then the core.
-use mathlib.Core.Path.{_≡_, refl, sym, _∙_}
+use mathlib.Core.Path.{_≡_, refl, sym, ap, _∙_}
 use mathlib.Core.Bool.{true}
 use denote.Ref.{now}
 use borrow.Author.Needs.{needs}
@@ -8,6 +8,7 @@ use Rattle.paging.specs.Choice.{refused, taken}
 use Rattle.paging.proofs.Cases.{decided-true, decided-false}
 use Rattle.common.specs.Flags.{knownPage}
 use Rattle.form.specs.Form.{Good}
+use Rattle.page_table.specs.Replies.{mapTold}
 use Rattle.generic_page_table.specs.Rules.{rangeInRule, pageAligned, physicalFits}
 use Rattle.generic_page_table.proofs.Rules.{range}
 use Rattle.generic_page_table.proofs.Calls.{unknown, out, unaligned, past, core}
@@ -49,7 +50,7 @@ returns-2 : tie.Need-returns-2
 returns-2 c =
     let k = c .before .before in
     let a = k .before .before .before .before .args in
-    taken (good k) (unknown (now (a .pool)) (a .base) (a .used) (a .vaddr) (a .size) (a .paddr) (a .flags .0) (sym (c .before .is-known .ensures) ∙ not-true _ (c .if2 .taken)))
+    taken (good k) (ap (mapTold (a .used)) (unknown (now (a .pool)) (a .base) (a .used) (a .vaddr) (a .size) (a .paddr) (a .flags .0) (sym (c .before .is-known .ensures) ∙ not-true _ (c .if2 .taken))))
 
 is-range-in-rule-requires : tie.Need-is-range-in-rule-requires
 is-range-in-rule-requires c κs = search needs
@@ -62,7 +63,7 @@ returns-3 c =
     let j = c .before .before in
     let k = j .before .before in
     let a = k .before .before .before .before .args in
-    taken (good k) (out (now (a .pool)) (a .base) (a .used) (a .vaddr) (a .size) (a .paddr) (a .flags .0) (known j) (sym (c .before .is-range-in-rule .ensures) ∙ not-true _ (c .if3 .taken)))
+    taken (good k) (ap (mapTold (a .used)) (out (now (a .pool)) (a .base) (a .used) (a .vaddr) (a .size) (a .paddr) (a .flags .0) (known j) (sym (c .before .is-range-in-rule .ensures) ∙ not-true _ (c .if3 .taken))))
 
 is-page-aligned-requires : tie.Need-is-page-aligned-requires
 is-page-aligned-requires c κs = search needs
@@ -76,7 +77,7 @@ returns-4 c =
     let j = i .before .before in
     let k = j .before .before in
     let a = k .before .before .before .before .args in
-    taken (good k) (unaligned (now (a .pool)) (a .base) (a .used) (a .vaddr) (a .size) (a .paddr) (a .flags .0) (known j) (ruled i) (sym (c .before .is-page-aligned .ensures) ∙ not-true _ (c .if4 .taken)))
+    taken (good k) (ap (mapTold (a .used)) (unaligned (now (a .pool)) (a .base) (a .used) (a .vaddr) (a .size) (a .paddr) (a .flags .0) (known j) (ruled i) (sym (c .before .is-page-aligned .ensures) ∙ not-true _ (c .if4 .taken))))
 
 is-physical-requires : tie.Need-is-physical-requires
 is-physical-requires c κs = search needs
@@ -91,7 +92,7 @@ returns-5 c =
     let j = i .before .before in
     let k = j .before .before in
     let a = k .before .before .before .before .args in
-    taken (good k) (past (now (a .pool)) (a .base) (a .used) (a .vaddr) (a .size) (a .paddr) (a .flags .0) (known j) (ruled i) (whole h) (sym (c .before .is-physical .ensures) ∙ not-true _ (c .if5 .taken)))
+    taken (good k) (ap (mapTold (a .used)) (past (now (a .pool)) (a .base) (a .used) (a .vaddr) (a .size) (a .paddr) (a .flags .0) (known j) (ruled i) (whole h) (sym (c .before .is-physical .ensures) ∙ not-true _ (c .if5 .taken))))
 
 map-cont-requires : tie.Need-map-cont-requires
 map-cont-requires c κs =
@@ -113,7 +114,7 @@ returns-6 c =
     let j = i .before .before in
     let k = j .before .before in
     let a = k .before .before .before .before .args in
-    taken (good k) (c .before .before .map-cont .ensures ∙ core (now (a .pool)) (a .base) (a .used) (a .vaddr) (a .size) (a .paddr) (a .flags .0) (known j) (ruled i) (whole h) (below g))
+    taken (good k) (ap (mapTold (a .used)) (c .before .before .map-cont .ensures ∙ core (now (a .pool)) (a .base) (a .used) (a .vaddr) (a .size) (a .paddr) (a .flags .0) (known j) (ruled i) (whole h) (below g)))
 
 pub map-cont-spec : {M : Type 1} → statement M
 map-cont-spec =

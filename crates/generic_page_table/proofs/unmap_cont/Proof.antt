@@ -1,5 +1,5 @@
 -- `unmap_cont`: 13, 15, the arguments, then the core.
-use mathlib.Core.Path.{_≡_, refl, sym, _∙_}
+use mathlib.Core.Path.{_≡_, refl, sym, ap, _∙_}
 use mathlib.Core.Bool.{true}
 use denote.Ref.{now}
 use borrow.Author.Needs.{needs}
@@ -8,6 +8,7 @@ use Rattle.paging.specs.Choice.{refused, taken}
 use Rattle.paging.proofs.Cases.{decided-true, decided-false}
 use Rattle.form.specs.Form.{Good}
 use Rattle.generic_page_table.specs.Rules.{rangeInRule, pageAligned}
+use Rattle.generic_page_table.specs.Calls.{unmapContTold}
 use Rattle.generic_page_table.proofs.Rules.{pages, halves}
 use Rattle.generic_page_table.proofs.Calls.{cut-out-of, cut-unaligned, cut-core}
 use Rattle.generic_page_table.proofs.unmap_cont.Statement.{statement}
@@ -42,7 +43,7 @@ returns-2 : tie.Need-returns-2
 returns-2 c =
     let k = c .before .before in
     let a = k .before .before .before .before .args in
-    taken (good k) (cut-out-of (now (a .pool)) (a .base) (a .used) (a .vaddr) (a .size) (sym (c .before .is-range-in-rule .ensures) ∙ not-true _ (c .if2 .taken)))
+    taken (good k) (ap unmapContTold (cut-out-of (now (a .pool)) (a .base) (a .used) (a .vaddr) (a .size) (sym (c .before .is-range-in-rule .ensures) ∙ not-true _ (c .if2 .taken))))
 
 is-page-aligned-requires : tie.Need-is-page-aligned-requires
 is-page-aligned-requires c κs = search needs
@@ -55,7 +56,7 @@ returns-3 c =
     let j = c .before .before in
     let k = j .before .before in
     let a = k .before .before .before .before .args in
-    taken (good k) (cut-unaligned (now (a .pool)) (a .base) (a .used) (a .vaddr) (a .size) (ruled j) (sym (c .before .is-page-aligned .ensures) ∙ not-true _ (c .if3 .taken)))
+    taken (good k) (ap unmapContTold (cut-unaligned (now (a .pool)) (a .base) (a .used) (a .vaddr) (a .size) (ruled j) (sym (c .before .is-page-aligned .ensures) ∙ not-true _ (c .if3 .taken))))
 
 unmap-cont-requires : tie.Need-unmap-cont-requires
 unmap-cont-requires c κs =
@@ -75,7 +76,7 @@ returns-4 c =
     let j = i .before .before in
     let k = j .before .before in
     let a = k .before .before .before .before .args in
-    taken (good k) (c .before .before .unmap-cont .ensures ∙ cut-core (now (a .pool)) (a .base) (a .used) (a .vaddr) (a .size) (ruled j) (whole i))
+    taken (good k) (ap unmapContTold (c .before .before .unmap-cont .ensures ∙ cut-core (now (a .pool)) (a .base) (a .used) (a .vaddr) (a .size) (ruled j) (whole i)))
 
 pub unmap-cont-spec : {M : Type 1} → statement M
 unmap-cont-spec =
