@@ -1,10 +1,11 @@
 -- What a space keeps through calls, and what accepted ones do.
-use Prim.Native.Nat.{ℕ, _+_}
+use Prim.Native.Nat.{ℕ, _+_, _/_}
 use mathlib.Core.Path.{_≡_, refl, sym, _∙_, ap, subst}
 use mathlib.Core.Bool.{Bool, true, false}
 use mathlib.Core.List.{List}
 use native.Mathlib.Omega.{arith}
 use Rattle.paging.specs.Choice.{Answered, refused, taken}
+use Rattle.refusal.specs.Reply.{Told}
 use Rattle.refusal.specs.declared.Refusal.{Refusal}
 use Rattle.space.specs.Passes.{Passes}
 use Rattle.space.specs.declared.Space.{Space}
@@ -33,12 +34,14 @@ use Rattle.vmar_unmap_laws.specs.Unmaps.{UnmapDone}
 use Rattle.vmar_unmap_laws.specs.Clears.{ClearDone}
 use Rattle.vmar_unmap_laws.proofs.Unmaps.{unmaps}
 use Rattle.vmar_unmap_laws.proofs.Clears.{clears}
+use Rattle.vmar_protect.specs.Protect.{lent, protected}
 use Rattle.vmar_protect.proofs.Laws.{protect-laws}
 use Rattle.vmar_overwrite.specs.Overwrite.{OverwriteDone, overwritten}
 use Rattle.vmar_overwrite_laws.specs.Overwrites as over
 use Rattle.vmar_overwrite_laws.proofs.Overwrites.{overwrites}
-use Rattle.vmar.specs.Calls.{AllocateFits, MapFits, FlagsDone, UserRangeDone, Ordered, bad-space, bad-table, done, before, UnmapFits, ClearFits, ProtectFits, ProtectedDone, protectedState, mapExt, MapExtFits}
+use Rattle.vmar.specs.Calls.{Ordered, bad-space, bad-table, done, before, kept, protectedState, mapExt}
 use Rattle.vmar.specs.Laws.{Step, Keeps, Means, Through}
+use Rattle.vmar.proofs.Replies.{AllocateIs, allocate-is, MapIs, map-is, MapExtIs, map-ext-is, CutIs, cut-is}
 
 -- nothing changes
 still : {s t : Space} {f g : List ℕ} → Arrays s → t ≡ s → g ≡ f → Step s t f g
@@ -59,14 +62,10 @@ module _ (s : Space) (f : List ℕ) (id : ℕ) (o : Offset) (len flags align : �
       by (allocate.Region n) e = let w = law .accepted n e in record { arrays = w .arrays; passes = λ q. w .passes; later = law .later }
       by (allocate.Refused why) e = still arrays (law .refused why e) refl
 
-  allocate-step : {out : Allocation} → AllocateFits s f id o len flags align out → Step s (out .space) f f
-  allocate-step (refused n e) = still arrays (ap (λ (x : Allocation). x .space) e) refl
-  allocate-step (taken p e) = subst (λ (x : Allocation). Step s (x .space) f f) (sym e) (allocated-step p)
-
   refused-region : {A : Type 0} {n : ℕ} {why : Refusal} → _≡_ {A = AllocateResult} (allocate.Refused why) (allocate.Region n) → A
   refused-region e = let z : _≡_ {A = ℕ} 0 1 = cc in absurd (omega arith)
 
-  allocate-means : {out : Allocation} → AllocateFits s f id o len flags align out → (n : ℕ) → out .result ≡ allocate.Region n
+  allocate-means : {out : Allocation} → AllocateIs s f id o len flags align out → (n : ℕ) → out .result ≡ allocate.Region n
       → alloc.Accepted s (out .space) f (slotOf s id) n o len flags align
   allocate-means (refused z e) n q = refused-region (sym (ap (λ (x : Allocation). x .result) e) ∙ q)
   allocate-means (taken p e) n q =
@@ -87,15 +86,10 @@ module _ (s : Space) (f p : List ℕ) (base used id : ℕ) (o : Offset) (vmo vmo
       by (map.Mapped addr) e = let w = law .accepted addr e in record { arrays = w .arrays; passes = λ z. w .passes; later = law .later }
       by (map.Refused why) e = let w = law .refused why e in still arrays (w .0) (w .1)
 
-  map-step : {out : MapDone} → MapFits s f p base used id o vmo vmo-len at len permissions flags faults out → Step s (out .space) f (out .flags)
-  map-step (bad-space n e) = still arrays (ap (λ (x : MapDone). x .space) e) (ap (λ (x : MapDone). x .flags) e)
-  map-step (bad-table q n e) = still arrays (ap (λ (x : MapDone). x .space) e) (ap (λ (x : MapDone). x .flags) e)
-  map-step (done q w e) = subst (λ (x : MapDone). Step s (x .space) f (x .flags)) (sym e) (mapped-step q)
-
   refused-mapped : {A : Type 0} {n : ℕ} {why : Refusal} → _≡_ {A = MapExtResult} (map.Refused why) (map.Mapped n) → A
   refused-mapped e = let z : _≡_ {A = ℕ} 0 1 = cc in absurd (omega arith)
 
-  map-means : {out : MapDone} → MapFits s f p base used id o vmo vmo-len at len permissions flags faults out → (addr : ℕ) → out .result ≡ map.Mapped addr
+  map-means : {out : MapDone} → MapIs s f p base used id o vmo vmo-len at len permissions flags faults out → (addr : ℕ) → out .result ≡ map.Mapped addr
       → mapping.Accepted s (out .space) f (out .flags) (slotOf s id) addr o vmo vmo-len at len permissions flags faults
   map-means (bad-space n e) addr q = refused-mapped (sym (ap (λ (x : MapDone). x .result) e) ∙ q)
   map-means (bad-table u n e) addr q = refused-mapped (sym (ap (λ (x : MapDone). x .result) e) ∙ q)
@@ -103,16 +97,17 @@ module _ (s : Space) (f p : List ℕ) (base used id : ℕ) (o : Offset) (vmo vmo
       subst (λ (x : MapDone). mapping.Accepted s (x .space) f (x .flags) (slotOf s id) addr o vmo vmo-len at len permissions flags faults) (sym e)
       (maps .holds s f arrays u id o vmo vmo-len at len permissions flags faults .accepted addr (sym (ap (λ (x : MapDone). x .result) e) ∙ q))
 
--- a lookup changes nothing
-looked-step : {A P : Type 0} (space : A → Space) {s : Space} {f : List ℕ} {a b out : A} → Arrays s → space a ≡ s → space b ≡ s → Answered P a b out → Step s (space out) f f
-looked-step space arrays x y (refused n e) = still arrays (ap space e ∙ x) refl
-looked-step space arrays x y (taken p e) = still arrays (ap space e ∙ y) refl
+-- a call that takes the space and the flags: where it is refused nothing changes
+answered-step : {P : Type 0} {s : Space} {f : List ℕ} {a b out : Told Space} → Arrays s → a .after ≡ s → (P → Step s (b .after) f f) → Answered P a b out → Step s (out .after) f f
+answered-step arrays x y (refused n e) = still arrays (ap (λ (t : Told Space). t .after) e ∙ x) refl
+answered-step {s = s} {f = f} arrays x y (taken p e) = subst (λ (t : Told Space). Step s (t .after) f f) (sym e) (y p)
 
-ordered-step : {P Q : Type 0} {s : Space} {f : List ℕ} {a b c out : FlagsDone} → Arrays s → a .space ≡ s → b .space ≡ s → c .space ≡ s → Ordered P Q a b c out
-    → Step s (out .space) f f
-ordered-step arrays x y z (bad-space n e) = still arrays (ap (λ (d : FlagsDone). d .space) e ∙ x) refl
-ordered-step arrays x y z (bad-table p n e) = still arrays (ap (λ (d : FlagsDone). d .space) e ∙ y) refl
-ordered-step arrays x y z (done p q e) = still arrays (ap (λ (d : FlagsDone). d .space) e ∙ z) refl
+-- a lookup in the table changes nothing
+ordered-step : {P Q : Type 0} {s : Space} {f : List ℕ} {a b c out : Told Space} → Arrays s → a .after ≡ s → b .after ≡ s → c .after ≡ s → Ordered P Q a b c out
+    → Step s (out .after) f f
+ordered-step arrays x y z (bad-space n e) = still arrays (ap (λ (t : Told Space). t .after) e ∙ x) refl
+ordered-step arrays x y z (bad-table p n e) = still arrays (ap (λ (t : Told Space). t .after) e ∙ y) refl
+ordered-step arrays x y z (done p q e) = still arrays (ap (λ (t : Told Space). t .after) e ∙ z) refl
 
 -- a call that takes the table too
 through-still : {base : ℕ} {st t : State} → Arrays (st .space) → t ≡ st → Through base st t
@@ -129,11 +124,11 @@ through-done {base} {st} d arrays stays ready later = by (d .result) refl
     by cut.Done e = let r = ready e in record { step = record { arrays = r .arrays; passes = λ p. r .passes; later = later }; good = λ g. r .good }
     by (cut.Refused why) e = through-still arrays (stays why e)
 
-through-ordered : {base : ℕ} {st : State} {P Q : Type 0} {a b does out : CutDone} → Arrays (st .space) → a .state ≡ st → b .state ≡ st → (P → Q → Through base st (does .state))
-    → Ordered P Q a b does out → Through base st (out .state)
-through-ordered arrays x y z (bad-space n e) = through-still arrays (ap (λ (d : CutDone). d .state) e ∙ x)
-through-ordered arrays x y z (bad-table p n e) = through-still arrays (ap (λ (d : CutDone). d .state) e ∙ y)
-through-ordered {base} {st} arrays x y z (done p q e) = subst (λ (d : CutDone). Through base st (d .state)) (sym e) (z p q)
+through-ordered : {base : ℕ} {st : State} {P Q : Type 0} {a b does out : Told State} → Arrays (st .space) → a .after ≡ st → b .after ≡ st → (P → Q → Through base st (does .after))
+    → Ordered P Q a b does out → Through base st (out .after)
+through-ordered arrays x y z (bad-space n e) = through-still arrays (ap (λ (t : Told State). t .after) e ∙ x)
+through-ordered arrays x y z (bad-table p n e) = through-still arrays (ap (λ (t : Told State). t .after) e ∙ y)
+through-ordered {base} {st} arrays x y z (done p q e) = subst (λ (t : Told State). Through base st (t .after)) (sym e) (z p q)
 
 unmap-through : (s : Space) (f p : List ℕ) (base used id addr len : ℕ) → Arrays s → Passes s f → Good p base used
     → Through base (before s f p base used) (unmapped base (before s f p base used) id addr len .state)
@@ -147,14 +142,11 @@ clear-through s f p base used id itself arrays passes good =
     let law = clears .holds base (before s f p base used) (record { arrays = arrays; passes = passes; good = good }) id itself in
     through-done (clearedCall base (before s f p base used) id itself) arrays (law .refused) (λ e. law .accepted e .ready) (law .later)
 
-protect-through : (s : Space) (f p : List ℕ) (base used id addr len access : ℕ) {out : ProtectedDone} → Arrays s → ProtectFits s f p base used id addr len access out
-    → Through base (before s f p base used) (protectedState used out)
-protect-through s f p base used id addr len access arrays (bad-space n e) = through-still arrays (ap (protectedState used) e)
-protect-through s f p base used id addr len access arrays (bad-table q n e) = through-still arrays (ap (protectedState used) e)
-protect-through s f p base used id addr len access arrays (done q g e) =
-    let law = protect-laws .protects s f p base used id addr len access q g in
-    subst (λ (d : ProtectedDone). Through base (before s f p base used) (protectedState used d)) (sym e)
-    (record { step = record { arrays = arrays; passes = λ z. law .passes; later = later-none s }; good = λ z. law .good })
+protect-through : (s : Space) (f p : List ℕ) (base used id addr len access : ℕ) → Arrays s → Passes s f → Good p base used
+    → Through base (before s f p base used) (protectedState used (kept s (protected s (lent f p) (base / 4096) id addr len access)))
+protect-through s f p base used id addr len access arrays passes good =
+    let law = protect-laws .protects s f p base used id addr len access passes good in
+    record { step = record { arrays = arrays; passes = λ z. law .passes; later = later-none s }; good = λ z. law .good }
 
 -- the half of map_ext that overwrites
 over-through : (base : ℕ) (st : State) (id : ℕ) (o : Offset) (vmo vmo-len at len permissions flags : ℕ) (faults : Bool) → Arrays (st .space) → Passes (st .space) (st .flags)
@@ -179,24 +171,19 @@ ext-through base st id o vmo vmo-len at len permissions flags true faults arrays
 ext-through base st id o vmo vmo-len at len permissions flags false faults arrays passes good =
     record { step = mapped-step (st .space) (st .flags) (st .pool) base (st .used) id o vmo vmo-len at len permissions flags faults arrays passes; good = λ g. g }
 
-ext-ordered : {base : ℕ} {st : State} {P Q : Type 0} {a b does out : OverwriteDone} → Arrays (st .space) → a .state ≡ st → b .state ≡ st → (P → Q → Through base st (does .state))
-    → Ordered P Q a b does out → Through base st (out .state)
-ext-ordered arrays x y z (bad-space n e) = through-still arrays (ap (λ (d : OverwriteDone). d .state) e ∙ x)
-ext-ordered arrays x y z (bad-table p n e) = through-still arrays (ap (λ (d : OverwriteDone). d .state) e ∙ y)
-ext-ordered {base} {st} arrays x y z (done p q e) = subst (λ (d : OverwriteDone). Through base st (d .state)) (sym e) (z p q)
-
 pub keeps : Keeps
 keeps = record {
-  allocate = λ s f id o len flags align out arrays. allocate-step s f id o len flags align arrays;
-  map = λ s f p base used id o vmo vmo-len at len permissions flags faults out arrays. map-step s f p base used id o vmo vmo-len at len permissions flags faults arrays;
-  mapping-flags = λ s f id x out arrays. looked-step (λ (d : FlagsDone). d .space) arrays refl refl;
-  user-range = λ s f id addr len access out arrays. looked-step (λ (d : UserRangeDone). d .space) arrays refl refl;
+  allocate = λ s f id o len flags align out arrays. answered-step arrays refl (allocated-step s f id o len flags align arrays);
+  map = λ s f p base used id o vmo vmo-len at len permissions flags faults out arrays x.
+      through-ordered arrays refl refl (ext-through base (before s f p base used) id o vmo vmo-len at len permissions flags false faults arrays) x .step;
+  mapping-flags = λ s f id x out arrays. answered-step arrays refl (λ p. still arrays refl refl);
+  user-range = λ s f id addr len access out arrays. answered-step arrays refl (λ p. still arrays refl refl);
   vaddr-flags = λ s f p base used id x out arrays. ordered-step arrays refl refl refl;
   map-ext = λ s f p base used id o vmo vmo-len at len permissions flags overwrite faults out arrays.
-      ext-ordered arrays refl refl (ext-through base (before s f p base used) id o vmo vmo-len at len permissions flags overwrite faults arrays);
+      through-ordered arrays refl refl (ext-through base (before s f p base used) id o vmo vmo-len at len permissions flags overwrite faults arrays);
   unmap = λ s f p base used id addr len out arrays. through-ordered arrays refl refl (unmap-through s f p base used id addr len arrays);
   clear = λ s f p base used id itself out arrays. through-ordered arrays refl refl (clear-through s f p base used id itself arrays);
-  protect = λ s f p base used id addr len access out arrays. protect-through s f p base used id addr len access arrays;
+  protect = λ s f p base used id addr len access out arrays. through-ordered arrays refl refl (protect-through s f p base used id addr len access arrays);
   more = more;
 }
 
@@ -214,14 +201,14 @@ map-refused-mapped : {why : Refusal} {addr : ℕ} → _≡_ {A = MapExtResult} (
 map-refused-mapped e = let z : _≡_ {A = ℕ} 0 1 = cc in omega arith
 
 module _ (s : Space) (f p : List ℕ) (base used id : ℕ) (arrays : Arrays s) where
-  unmap-means : (addr len : ℕ) (out : CutDone) → UnmapFits s f p base used id addr len out → out .result ≡ cut.Done
+  unmap-means : (addr len : ℕ) (out : CutDone) → CutIs s f p base used (unmapped base (before s f p base used) id addr len) out → out .result ≡ cut.Done
       → UnmapDone base (before s f p base used) (out .state) (slotOf s id) addr (addr + len)
   unmap-means addr len out fits q =
       let a = accepted-by (λ (x : CutDone). x .result) cut.Done cut-refused-done cut-refused-done fits q in
       subst (λ (x : CutDone). UnmapDone base (before s f p base used) (x .state) (slotOf s id) addr (addr + len)) (sym (a .2))
       (unmaps .holds base (before s f p base used) (record { arrays = arrays; passes = a .0; good = a .1 }) id addr len .accepted (a .3))
 
-  clear-means : (itself : Bool) (out : CutDone) → ClearFits s f p base used id itself out → out .result ≡ cut.Done
+  clear-means : (itself : Bool) (out : CutDone) → CutIs s f p base used (clearedCall base (before s f p base used) id itself) out → out .result ≡ cut.Done
       → ClearDone base (before s f p base used) (out .state) (slotOf s id) itself
   clear-means itself out fits q =
       let a = accepted-by (λ (x : CutDone). x .result) cut.Done cut-refused-done cut-refused-done fits q in
@@ -229,7 +216,7 @@ module _ (s : Space) (f p : List ℕ) (base used id : ℕ) (arrays : Arrays s) w
       (clears .holds base (before s f p base used) (record { arrays = arrays; passes = a .0; good = a .1 }) id itself .accepted (a .3))
 
   over-means : (o : Offset) (vmo vmo-len at len permissions flags : ℕ) (faults : Bool) (out : OverwriteDone)
-      → MapExtFits s f p base used id o vmo vmo-len at len permissions flags true faults out → (addr : ℕ) → out .result ≡ map.Mapped addr
+      → MapExtIs s f p base used id o vmo vmo-len at len permissions flags true faults out → (addr : ℕ) → out .result ≡ map.Mapped addr
       → over.Accepted base (before s f p base used) (out .state) (slotOf s id) addr o vmo vmo-len at len permissions flags faults
   over-means o vmo vmo-len at len permissions flags faults out fits addr q =
       let a = accepted-by (λ (x : OverwriteDone). x .result) (map.Mapped addr) map-refused-mapped map-refused-mapped fits q in
@@ -238,9 +225,14 @@ module _ (s : Space) (f p : List ℕ) (base used id : ℕ) (arrays : Arrays s) w
 
 pub means : Means
 means = record {
-  overwrite = λ s f p base used id o vmo vmo-len at len permissions flags faults out arrays. over-means s f p base used id arrays o vmo vmo-len at len permissions flags faults out;
-  clear = λ s f p base used id itself out arrays. clear-means s f p base used id arrays itself out;
-  unmap = λ s f p base used id addr len out arrays. unmap-means s f p base used id arrays addr len out;
-  allocate = λ s f id o len flags align out arrays. allocate-means s f id o len flags align arrays;
-  map = λ s f p base used id o vmo vmo-len at len permissions flags faults out arrays. map-means s f p base used id o vmo vmo-len at len permissions flags faults arrays;
+  overwrite = λ s f p base used id o vmo vmo-len at len permissions flags faults out arrays x.
+      over-means s f p base used id arrays o vmo vmo-len at len permissions flags faults out
+      (map-ext-is s f p base used id o vmo vmo-len at len permissions flags true faults out x);
+  clear = λ s f p base used id itself out arrays x.
+      clear-means s f p base used id arrays itself out (cut-is s f p base used (clearedCall base (before s f p base used) id itself) out x);
+  unmap = λ s f p base used id addr len out arrays x.
+      unmap-means s f p base used id arrays addr len out (cut-is s f p base used (unmapped base (before s f p base used) id addr len) out x);
+  allocate = λ s f id o len flags align out arrays x. allocate-means s f id o len flags align arrays (allocate-is s f id o len flags align out x);
+  map = λ s f p base used id o vmo vmo-len at len permissions flags faults out arrays x.
+      map-means s f p base used id o vmo vmo-len at len permissions flags faults arrays (map-is s f p base used id o vmo vmo-len at len permissions flags faults out x);
 }

@@ -4,7 +4,8 @@ use denote.Ref.{now}
 use borrow.Author.Tests.{not-true, not-false}
 use Rattle.paging.specs.Choice.{taken}
 use Rattle.paging.proofs.Cases.{decided-true, decided-false}
-use Rattle.vmar.specs.Calls.{looked, bad-space, bad-table, done}
+use Rattle.vmar_lookup.specs.declared.FlagsResult.{FlagsResult}
+use Rattle.vmar.specs.Calls.{looked, flagsTold, bad-space, bad-table, done}
 use borrow.Author.Needs.{needs}
 use Rattle.vmar.proofs.AddressSpace.get_vaddr_flags.Statement.{statement}
 use Rattle.vmar.proofs.AddressSpace.get_vaddr_flags.Tie as tie
@@ -31,7 +32,7 @@ returns-3 : tie.Need-returns-3
 returns-3 c =
     let is-good = c .before .before .before .before .is-good in
     let a = c .before .before .before .before .before .before .before .before .args in
-    done (decided-true _ (is-good .result) (is-good .ensures) (not-false (is-good .result) (c .before .before .before .if1 .left))) (decided-true _ (c .before .before .is-good2 .result) (c .before .before .is-good2 .ensures) (not-false (c .before .before .is-good2 .result) (c .before .if2 .left))) (ap (looked (a .self .space)) (c .vaddr-flags-in .ensures))
+    done (decided-true _ (is-good .result) (is-good .ensures) (not-false (is-good .result) (c .before .before .before .if1 .left))) (decided-true _ (c .before .before .is-good2 .result) (c .before .before .is-good2 .ensures) (not-false (c .before .before .is-good2 .result) (c .before .if2 .left))) (ap (λ (r : FlagsResult). flagsTold (looked (a .self .space) r)) (c .vaddr-flags-in .ensures))
 
 pub get-vaddr-flags-spec : {M : Type 1} → statement M
 get-vaddr-flags-spec =

@@ -1,9 +1,10 @@
 -- `map`: 12, 13, then the core.
-use mathlib.Core.Path.{refl}
+use mathlib.Core.Path.{refl, ap}
+use denote.Ref.{now}
 use borrow.Author.Tests.{not-true, not-false}
 use Rattle.paging.specs.Choice.{taken}
 use Rattle.paging.proofs.Cases.{decided-true, decided-false}
-use Rattle.vmar.specs.Calls.{bad-space, bad-table, done}
+use Rattle.vmar.specs.Calls.{before, mapTold, bad-space, bad-table, done}
 use borrow.Author.Needs.{needs}
 use Rattle.vmar.proofs.AddressSpace.map.Statement.{statement}
 use Rattle.vmar.proofs.AddressSpace.map.Tie as tie
@@ -37,11 +38,13 @@ same-length-3 c = search needs
 
 returns-3 : tie.Need-returns-3
 returns-3 c =
+    let a = c .before .before .before .before .before .before .before .before .before .before .before .before .before .args in
+    let st = before (a .self .space) (now (a .pages)) (now (a .pool)) (a .base) (a .used) in
     let is-good = c .before .before .before .before .before .before .before .before .is-good in
     let if1 = c .before .before .before .before .before .before .before .if1 in
     let is-good2 = c .before .before .before .before .before .before .is-good2 in
     let if2 = c .before .before .before .before .before .if2 in
-    done (decided-true _ (is-good .result) (is-good .ensures) (not-false (is-good .result) (if1 .left))) (decided-true _ (is-good2 .result) (is-good2 .ensures) (not-false (is-good2 .result) (if2 .left))) (c .before .before .before .map .ensures)
+    done (decided-true _ (is-good .result) (is-good .ensures) (not-false (is-good .result) (if1 .left))) (decided-true _ (is-good2 .result) (is-good2 .ensures) (not-false (is-good2 .result) (if2 .left))) (ap (mapTold st) (c .before .before .before .map .ensures))
 
 pub map-spec : {M : Type 1} → statement M
 map-spec =

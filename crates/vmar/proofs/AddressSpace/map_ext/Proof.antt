@@ -1,9 +1,9 @@
 -- `map_ext`: 12, 13, then the core.
 use borrow.Author.Needs.{needs}
-use mathlib.Core.Path.{refl}
+use mathlib.Core.Path.{refl, ap}
 use borrow.Author.Tests.{not-true, not-false}
 use Rattle.paging.proofs.Cases.{decided-true, decided-false}
-use Rattle.vmar.specs.Calls.{bad-space, bad-table, done}
+use Rattle.vmar.specs.Calls.{extTold, bad-space, bad-table, done}
 use borrow.Author.Needs.{needs}
 use Rattle.vmar.proofs.AddressSpace.map_ext.Statement.{statement}
 use Rattle.vmar.proofs.AddressSpace.map_ext.Tie as tie
@@ -39,7 +39,7 @@ same-length-5 : tie.Need-same-length-5
 same-length-5 c = search needs
 
 returns-3 : tie.Need-returns-3
-returns-3 c = done (decided-true _ (c .before .before .before .before .before .before .before .before .before .before .before .before .is-good .result) (c .before .before .before .before .before .before .before .before .before .before .before .before .is-good .ensures) (not-false (c .before .before .before .before .before .before .before .before .before .before .before .before .is-good .result) (c .before .before .before .before .before .before .before .before .before .before .before .if1 .left))) (decided-true _ (c .before .before .before .before .before .before .before .before .before .is-good2 .result) (c .before .before .before .before .before .before .before .before .before .is-good2 .ensures) (not-false (c .before .before .before .before .before .before .before .before .before .is-good2 .result) (c .before .before .before .before .before .before .before .before .if2 .left))) (c .before .before .before .before .before .map-ext-in .ensures)
+returns-3 c = done (decided-true _ (c .before .before .before .before .before .before .before .before .before .before .before .before .is-good .result) (c .before .before .before .before .before .before .before .before .before .before .before .before .is-good .ensures) (not-false (c .before .before .before .before .before .before .before .before .before .before .before .before .is-good .result) (c .before .before .before .before .before .before .before .before .before .before .before .if1 .left))) (decided-true _ (c .before .before .before .before .before .before .before .before .before .is-good2 .result) (c .before .before .before .before .before .before .before .before .before .is-good2 .ensures) (not-false (c .before .before .before .before .before .before .before .before .before .is-good2 .result) (c .before .before .before .before .before .before .before .before .if2 .left))) (ap extTold (c .before .before .before .before .before .map-ext-in .ensures))
 
 pub map-ext-spec : {M : Type 1} → statement M
 map-ext-spec =

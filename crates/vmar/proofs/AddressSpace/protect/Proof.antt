@@ -3,8 +3,8 @@ use borrow.Author.Needs.{needs}
 use mathlib.Core.Path.{refl, ap}
 use borrow.Author.Tests.{not-true, not-false}
 use Rattle.paging.proofs.Cases.{decided-true, decided-false}
-use Rattle.vmar.specs.Calls.{bad-space, bad-table, done}
-use Rattle.vmar.specs.Calls.{kept}
+use Rattle.vmar_protect.specs.Protect.{ProtectDone}
+use Rattle.vmar.specs.Calls.{kept, protectTold, bad-space, bad-table, done}
 use borrow.Author.Needs.{needs}
 use Rattle.vmar.proofs.AddressSpace.protect.Statement.{statement}
 use Rattle.vmar.proofs.AddressSpace.protect.Tie as tie
@@ -40,7 +40,9 @@ same-length-5 : tie.Need-same-length-5
 same-length-5 c = search needs
 
 returns-3 : tie.Need-returns-3
-returns-3 c = done (decided-true _ (c .before .before .before .before .before .before .before .before .before .before .before .is-good .result) (c .before .before .before .before .before .before .before .before .before .before .before .is-good .ensures) (not-false (c .before .before .before .before .before .before .before .before .before .before .before .is-good .result) (c .before .before .before .before .before .before .before .before .before .before .if1 .left))) (decided-true _ (c .before .before .before .before .before .before .before .before .is-good2 .result) (c .before .before .before .before .before .before .before .before .is-good2 .ensures) (not-false (c .before .before .before .before .before .before .before .before .is-good2 .result) (c .before .before .before .before .before .before .before .if2 .left))) (ap (kept (c .before .before .before .before .before .before .before .before .before .before .before .before .before .before .before .before .args .self .space)) (c .before .before .before .before .protect .ensures))
+returns-3 c =
+    let a = c .before .before .before .before .before .before .before .before .before .before .before .before .before .before .before .before .args in
+    done (decided-true _ (c .before .before .before .before .before .before .before .before .before .before .before .is-good .result) (c .before .before .before .before .before .before .before .before .before .before .before .is-good .ensures) (not-false (c .before .before .before .before .before .before .before .before .before .before .before .is-good .result) (c .before .before .before .before .before .before .before .before .before .before .if1 .left))) (decided-true _ (c .before .before .before .before .before .before .before .before .is-good2 .result) (c .before .before .before .before .before .before .before .before .is-good2 .ensures) (not-false (c .before .before .before .before .before .before .before .before .is-good2 .result) (c .before .before .before .before .before .before .before .if2 .left))) (ap (λ (d : ProtectDone). protectTold (a .used) (kept (a .self .space) d)) (c .before .before .before .before .protect .ensures))
 
 pub protect-spec : {M : Type 1} → statement M
 protect-spec =
