@@ -1,5 +1,5 @@
 -- What `map_ext` does: how a call ends, and the mapping that an accepted one makes.
-use Prim.Native.Nat.{ℕ, _+_, _*_, _/_, _%_, _^_, _≤_, _<_}
+use Prim.Native.Nat.{ℕ, _+_, _*_, _/_, _%_, _≤_, _<_}
 use mathlib.Core.Path.{_≡_, refl, sym, _∙_, ap, subst}
 use mathlib.Core.Bool.{Bool, true, false}
 use mathlib.Core.List.{List}
@@ -34,7 +34,7 @@ use Rattle.vmar_map.proofs.Maps.{odd-offset, odd-length, over, denied, faulting
 use Rattle.space.specs.Arrays.{Arrays}
 use Rattle.vmar_laws.specs.Later.{Later}
 use Rattle.vmar_laws.specs.Search.{FreeIn, NoFit}
-use Rattle.vmar_laws.specs.Maps.{NewMapping, PagesGiven, Accepted, MapsAll}
+use Rattle.vmar_laws.specs.Maps.{Fine, NewMapping, PagesGiven, Accepted, MapsAll}
 use Rattle.vmar_laws.proofs.Lists.{last-place, early-place}
 use Rattle.vmar_laws.proofs.Slots.{Fills, here, there}
 use Rattle.vmar_laws.proofs.Later.{later-none, later-mapping}
@@ -42,15 +42,7 @@ use Rattle.vmar_laws.proofs.Search.{free-in, hinted, unhinted, no-memor
 use Rattle.vmar_laws.proofs.Pages.{filled-length, pages-given}
 use Rattle.vmar_laws.proofs.Mapping.{Born, zeros, mapping-passes, mapping-arrays}
 
--- what the first tests have shown: whole pages of the VMO that do not overflow, rights that are granted, and a range in the VMO unless faults are allowed
-pub record Fine (v at len p fl : ℕ) (faults : Bool) : Type 0 where
-  pub offset : at % 4096 ≡ 0
-  pub size : len % 4096 ≡ 0
-  pub end : at + len < 2 ^ 64
-  pub granted : grants p (rights fl) ≡ true
-  pub within : faults ≡ false → at + len ≤ v
-
--- how they end: fine, or refused, not with 3
+-- how the first tests end: fine, or refused, not with 3
 pub data Tests (v at len p fl : ℕ) (faults : Bool) : Tested → Type 0 where
   fine : Fine v at len p fl faults → Tests v at len p fl faults test.Fine
   fails : (why : Refusal) → (why ≡ NoMemory → _≡_ {A = ℕ} 0 1) → Tests v at len p fl faults (test.Refused why)
@@ -78,7 +70,7 @@ module _ (v at len p f : ℕ) (faults : Bool) where
     where
       passed : multiple at 4096 ≡ true → multiple len 4096 ≡ true → leb (at + len) 0xffff_ffff_ffff_ffff ≡ true → grants p (rights f) ≡ true
           → (faults ≡ false → at + len ≤ v) → Tests v at len p f faults test.Fine
-      passed a b c d e = fine (record { offset = eqb-true _ _ a; size = eqb-true _ _ b; end = sum-fits at len c; granted = d; within = e })
+      passed a b c d e = fine (record { pages = record { offset = eqb-true _ _ a; size = eqb-true _ _ b; end = sum-fits at len c }; granted = d; within = e })
 
       last : multiple at 4096 ≡ true → multiple len 4096 ≡ true → leb (at + len) 0xffff_ffff_ffff_ffff ≡ true → grants p (rights f) ≡ true
           → (faults ≡ true) ⊎ (faults ≡ false) → (leb (at + len) v ≡ true) ⊎ (leb (at + len) v ≡ false) → Tests v at len p f faults (tested v at len p f faults)
@@ -223,10 +215,10 @@ module _ (s : Space) (f : List ℕ) (id : ℕ) (o : Offset) (vmo v at len p fl :
           fits = w;
           paged = record {
             addr = shown .aligned;
-            size = shown .fine .size;
-            offset = shown .fine .offset;
+            size = shown .fine .pages .size;
+            offset = shown .fine .pages .offset;
             end = omega (arith, z .1);
-            vmo-end = shown .fine .end;
+            vmo-end = shown .fine .pages .end;
             few = few;
           };
           known = shown .permissions;

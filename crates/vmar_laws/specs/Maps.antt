@@ -1,7 +1,7 @@
 -- What `map_ext` on a space that passes its check does. Document 01: "A refusal gives value 0 and changes nothing anywhere"; "every child and mapping is in one list
 -- and inside its region, no two of a region overlap"; "Slots .. are used again, the lowest free one first"; "Flags of free slots and past a mapping's last page are
 -- zero"; "A mapping whose address is not page-aligned is 1"; 'Regions' on the offset.
-use Prim.Native.Nat.{ℕ, _+_, _/_, _%_, _≤_, _<_}
+use Prim.Native.Nat.{ℕ, _+_, _/_, _%_, _^_, _≤_, _<_}
 use mathlib.Core.Path.{_≡_}
 use mathlib.Core.Bool.{Bool, true, false}
 use mathlib.Core.List.{List}
@@ -19,6 +19,18 @@ use Rattle.vmar_map.specs.declared.MapExtResult.the-variants as result
 use Rattle.space.specs.Arrays.{Arrays}
 use Rattle.vmar_laws.specs.Later.{Later}
 use Rattle.vmar_laws.specs.Search.{FreeIn, FirstFit, NoFit}
+
+-- the range in the VMO is of whole pages and does not overflow
+pub record VmoPages (at len : ℕ) : Type 0 where
+  pub offset : at % 4096 ≡ 0
+  pub size : len % 4096 ≡ 0
+  pub end : at + len < 2 ^ 64
+
+-- what the Rust's first tests let pass: such pages, rights that the permissions grant, and a range in the VMO unless faults are allowed
+pub record Fine (vmo-len at len permissions flags : ℕ) (faults : Bool) : Type 0 where
+  pub pages : VmoPages at len
+  pub granted : grants permissions (rights flags) ≡ true
+  pub within : faults ≡ false → at + len ≤ vmo-len
 
 -- t has in slot i a new mapping of the region in slot r of s: of VMO v from `at` on, of this length, with permissions p
 pub record NewMapping (s t : Space) (r i v at len p : ℕ) : Type 0 where

@@ -5,6 +5,7 @@ use mathlib.Core.Bool.{Bool, true, false, not}
 use mathlib.Core.List.{List}
 use mathlib.Core.Logic.{⊎-elim}
 use native.Mathlib.Omega.{arith}
+use native.Mathlib.Nat.{eq-or-lt-of-le}
 use lib.Dec.{leb, ltb}
 use lib.ListN.{getD}
 use borrow.Author.Tests.{lt-ltb, le-ltb, leb-false, ltb-false, not-true}
@@ -92,9 +93,22 @@ unfolding firstOf
 from-least p zero i = omega arith
 from-least p (suc k) i = ⊎-elim (λ t. rw t (omega arith)) (λ f. let g = from-least p k (i + 1) in rw f (omega arith)) (tell (p i))
 
+from-before : (p : ℕ → Bool) (k i j : ℕ) → i ≤ j → j < firstOf p i k → p j ≡ false
+unfolding firstOf
+from-before p zero i j a h = absurd (omega arith)
+from-before p (suc k) i j a h =
+    ⊎-elim
+    (λ t. absurd (let g : j < i = rw t at h in omega arith))
+    (λ f. ⊎-elim (λ q. subst (λ (x : ℕ). p x ≡ false) q f) (λ l. from-before p k (i + 1) j (omega arith) (rw f at h)) (eq-or-lt-of-le a))
+    (tell (p i))
+
 pub first-from : (p : ℕ → Bool) (i n : ℕ) → first p i n < n → (i ≤ first p i n) × (p (first p i n) ≡ true)
 unfolding first
 first-from p i n h = let g = from-least p (n - i) i in (g, from-is p (n - i) i (omega arith))
+
+pub first-before : (p : ℕ → Bool) (i n j : ℕ) → i ≤ j → j < first p i n → p j ≡ false
+unfolding first
+first-before p i n j a h = from-before p (n - i) i j a h
 
 -- a free slot after the lowest free one
 pub record TwoFree (s : Space) : Type 0 where

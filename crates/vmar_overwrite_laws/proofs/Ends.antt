@@ -31,7 +31,8 @@ use Rattle.vmar_map.specs.Map as half
 use Rattle.vmar_map.specs.declared.MapExtResult.the-variants as result
 use Rattle.vmar_map.specs.declared.Tested.{Tested}
 use Rattle.vmar_map.proofs.Maps as maps
-use Rattle.vmar_laws.proofs.Maps.{Fine, Tests, fine, fails, tests}
+use Rattle.vmar_laws.specs.Maps.{Fine}
+use Rattle.vmar_laws.proofs.Maps.{Tests, fine, fails, tests}
 use Rattle.vmar_unmap.specs.Unmap.{State, CutDone, freeFrames, cutState, partlyAt}
 use Rattle.vmar_overwrite.specs.Overwrite.{OverwriteDone, refused, newSlot, isShort, withNew, afterCut, cutFor, slotFor, replaced, uncut, atOffset, byOffset, inRegion, afterTests, overwritten}
 use Rattle.vmar_overwrite.proofs.Room.{RangeEnds, refusal, cuts, range-ends, not-short}
@@ -81,7 +82,7 @@ module _ (base : ℕ) (st : State) (id : ℕ) (o : Offset) (vmo v at len p fl : 
         (tell (eqb r 32))
 
     tests-alike : (d : Tested) → Tests v at len p fl faults d → afterTests base st id o vmo at len p fl d ≡ uncut st (half.afterTests s f id o vmo at len p fl d)
-    tests-alike d (fine w) = in-alike (eq-eqb _ _ (w .size))
+    tests-alike d (fine w) = in-alike (eq-eqb _ _ (w .pages .size))
     tests-alike d (fails why n) = refl
 
     pub alike : overwritten base st id o vmo v at len p fl faults ≡ other

@@ -1,3 +1,5 @@
+pub mod Slots
 pub mod Steps
 pub mod Ends
+pub mod Answers
 pub mod Overwrites

@@ -44,9 +44,12 @@ use Rattle.vmar_prune_laws.specs.Cut.{SameAt, Cut}
 use Rattle.vmar_prune_laws.proofs.Calls.{calls-all}
 use Rattle.vmar_unmap.specs.Unmap.{State, tablesOf}
 use Rattle.vmar_overwrite.specs.Overwrite.{OverwriteDone, newSlot, uncut}
+use Rattle.vmar_overwrite_laws.specs.Answers.{NewSlot}
 use Rattle.vmar_overwrite_laws.specs.Overwrites.{Kept, Accepted, cutOf, flagsOf, Replaced, OverwritesAll}
-use Rattle.vmar_overwrite_laws.proofs.Steps.{made, spare-before, spare, cleared, same-self, same-after, new-mapping}
+use Rattle.vmar_overwrite_laws.proofs.Slots.{slot-is, free-slot}
+use Rattle.vmar_overwrite_laws.proofs.Steps.{made, spare, cleared, same-self, same-after, new-mapping}
 use Rattle.vmar_overwrite_laws.proofs.Ends.{Shown, leaves, Ends, refuses, places, replaces, alike, same-offset, ends}
+use Rattle.vmar_overwrite_laws.proofs.Answers.{only, answers}
 
 mapped-refused : {A : Type 0} {n : ℕ} {why : Refusal} → _≡_ {A = MapExtResult} (result.Mapped n) (result.Refused why) → A
 mapped-refused e = let z : _≡_ {A = ℕ} 0 1 = cc in absurd (omega arith)
@@ -83,6 +86,13 @@ module _ (base : ℕ) (st : State) (arrays : Arrays (st .space)) (passes : Passe
   placed-kept addr a i x l c h d q =
       (i, same-after s f i s t f g (freeMapping s) (len / 4096) fl i x passes (a .mapping .free) (a .kept) (a .pages) (same-self s f i x l c h))
 
+  free-taken : (addr : ℕ) → half.Accepted s t f g r addr o vmo v at len p fl faults → NewSlot s r addr (addr + len) (freeMapping s)
+  free-taken addr a =
+      let fits : FreeIn s r addr len = subst (λ (n : ℕ). FreeIn s r addr n) (a .mapping .size) (subst (λ (x : ℕ). FreeIn s r x (mappingAt t (freeMapping s) .size)) (a .address) (a .mapping .fits)) in
+      let q = free-slot s r addr len fits in
+      let l = a .mapping .slot in
+      subst (NewSlot s r addr (addr + len)) (sym q) (slot-is s r addr (addr + len) (omega arith) (omega arith))
+
   placed : (off addr : ℕ) → o ≡ offset.Some off → half.Accepted s t f g r addr o vmo v at len p fl faults
       → Accepted base st (uncut st (mapped s f id o vmo v at len p fl faults) .state) r addr o vmo v at len p fl faults
   placed off addr q a =
@@ -93,7 +103,7 @@ module _ (base : ℕ) (st : State) (arrays : Arrays (st .space)) (passes : Passe
         arrays = a .arrays;
         good = good;
         slot = freeMapping s;
-        free = m .free;
+        free = free-taken addr a;
         mapping = new-mapping t g (a .passes) r (freeMapping s) addr vmo at len p fl (m .slot) (m .live) (m .region) (a .address) (m .size) (m .vmo) (m .offset) (m .permissions)
             (a .pages .given) (s .mapcount, m .count, m .last);
         asked = (off, q, z .0, z .1);
@@ -139,16 +149,13 @@ module _ (base : ℕ) (st : State) (arrays : Arrays (st .space)) (passes : Passe
     to = let z = shown .inner in omega arith
 
     cut : Cut s f (marked s r b e) r b e c h
-    cut = made s f arrays passes r b len (home .0) (home .1) (shown .aligned) (shown .fine .size) (shown .positive) (shown .apart) (shown .slot) from to
-
-    before : isMapping s slot ≡ false
-    before = spare-before s f arrays passes r b len (home .0) (home .1) (shown .aligned) (shown .fine .size) (shown .positive) (shown .apart) (shown .slot) from to
+    cut = made s f arrays passes r b len (home .0) (home .1) (shown .aligned) (shown .fine .pages .size) (shown .positive) (shown .apart) (shown .slot) from to
 
     free : isMapping c slot ≡ false
-    free = spare s f arrays passes r b len (home .0) (home .1) (shown .aligned) (shown .fine .size) (shown .positive) (shown .apart) (shown .slot) from to
+    free = spare s f arrays passes r b len (home .0) (home .1) (shown .aligned) (shown .fine .pages .size) (shown .positive) (shown .apart) (shown .slot) from to
 
     fits : FreeIn c r b len
-    fits = cleared s f arrays passes r b len (home .0) (home .1) (shown .aligned) (shown .fine .size) (shown .positive) (shown .apart) (shown .slot) from to
+    fits = cleared s f arrays passes r b len (home .0) (home .1) (shown .aligned) (shown .fine .pages .size) (shown .positive) (shown .apart) (shown .slot) from to
 
     few : len / 4096 ≤ 512
     few = let z = shown .few in omega arith
@@ -162,10 +169,10 @@ module _ (base : ℕ) (st : State) (arrays : Arrays (st .space)) (passes : Passe
           fits = fits;
           paged = record {
             addr = shown .aligned;
-            size = shown .fine .size;
-            offset = shown .fine .offset;
+            size = shown .fine .pages .size;
+            offset = shown .fine .pages .offset;
             end = omega arith;
-            vmo-end = shown .fine .end;
+            vmo-end = shown .fine .pages .end;
             few = few;
           };
           known = shown .permissions;
@@ -192,7 +199,7 @@ module _ (base : ℕ) (st : State) (arrays : Arrays (st .space)) (passes : Passe
         mapping-passes c h (cut .passes) (cut .arrays) slot (shown .slot) free m born k fl (filled-length h (slot * 512) (len / 4096) fl ∙ cut .passes .lent) (shown .flags) given
 
     range : PageRange b e
-    range = let x = shown .aligned in let y = shown .fine .size in record { order = omega arith; begin = shown .aligned; end = omega arith }
+    range = let x = shown .aligned in let y = shown .fine .pages .size in record { order = omega arith; begin = shown .aligned; end = omega arith }
 
     table : UnmapLeaves s r b e (st .pool) base (st .used) (tablesOf (leaves base st id o vmo v at len p fl faults off))
     table = region-cuts .unmap-leaves s f r b e (st .pool) base (st .used) passes range good (shown .frames)
@@ -248,7 +255,7 @@ module _ (base : ℕ) (st : State) (arrays : Arrays (st .space)) (passes : Passe
       arrays = mapping-arrays c slot m (cut .arrays);
       good = table .all .good;
       slot = slot;
-      free = before;
+      free = slot-is s r b e (omega arith) (shown .slot);
       mapping = new-mapping u k after-passes r slot b vmo at len p fl (shown .slot) (ap (λ (n : Mapping). n .live) is) (ap (λ (n : Mapping). n .region) is)
           (ap (λ (n : Mapping). n .addr) is) (ap (λ (n : Mapping). n .size) is) (ap (λ (n : Mapping). n .vmo) is) (ap (λ (n : Mapping). n .offset) is)
           (ap (λ (n : Mapping). n .permissions) is) (given .given) (
@@ -313,5 +320,7 @@ overwrites = record {
         alike = λ off q t. alike base st id o vmo v at len p fl faults off q t;
         replaced = replaces-all base st arrays passes good id o vmo v at len p fl faults out;
         later = later-all base st arrays passes good id o vmo v at len p fl faults out;
+        answers = answers base st passes id o vmo v at len p fl faults;
+        only = only base st passes id o vmo v at len p fl faults;
       };
 }

@@ -19,7 +19,6 @@ use Rattle.space.specs.declared.Mapping.{Mapping}
 use Rattle.space.specs.declared.Space.{Space}
 use Rattle.space.proofs.Ranges.{apart-of, inner-of, holds, holds-of}
 use Rattle.vmar_offset.specs.Offset.{freeMapping, childMeets}
-use Rattle.vmar_offset.proofs.Found.{free-mapping}
 use Rattle.vmar_doom.specs.Doomed.{isChildIn, Doomed, marked}
 use Rattle.vmar_doom.specs.Doomed as doomed
 use Rattle.vmar_laws.specs.Search.{FreeIn}
@@ -33,8 +32,9 @@ use Rattle.vmar_prune_laws.proofs.Cuts.{cut-all}
 use Rattle.vmar_prune_laws.proofs.Calls.{calls-all}
 use Rattle.vmar_unmap.specs.Unmap.{isPartly, partlyAt}
 use Rattle.vmar_overwrite.specs.Overwrite.{newSlot}
-use Rattle.vmar_overwrite.proofs.Room.{two-free, slot-alone, slot-second, split-room}
+use Rattle.vmar_overwrite.proofs.Room.{two-free, slot-second, split-room}
 use Rattle.vmar_overwrite_laws.specs.Overwrites.{NewMapping, cutOf, flagsOf}
+use Rattle.vmar_overwrite_laws.proofs.Slots.{slot-is}
 
 -- a child that the range does not meet, one that it meets in part, one within it
 off-child : (g : Region) (r b n : ℕ) → childMeets g r b n ≡ false → g .live ≡ true → g .parent ≡ r → overlap (g .addr) (g .size) b n ≡ false
@@ -74,16 +74,8 @@ module _ (s : Space) (f : List ℕ) (arrays : Arrays s) (p : Passes s f) (r b le
   made = cut-all .holds s f marks r b e (calls-all .range s f marks r b e marking (omega arith) begin (omega arith) (split-room s r b e room))
 
   -- the slot was free before the call
-  pub spare-before : isMapping s slot ≡ false
-  spare-before =
-      ⊎-elim
-      (λ (l : splitSlot s r b e < 64).
-      let q = slot-second s r b e (splitSlot s r b e) refl l in
-      subst (λ (x : ℕ). isMapping s x ≡ false) q (two-free s (omega arith) .free))
-      (λ (l : 64 ≤ splitSlot s r b e).
-      let q = slot-alone s r b e (splitSlot s r b e) refl l in
-      subst (λ (x : ℕ). isMapping s x ≡ false) q (free-mapping s (λ z. omega arith) .1))
-      (below? (splitSlot s r b e) 64)
+  spare-before : isMapping s slot ≡ false
+  spare-before = slot-is s r b e (omega arith) room .free
 
   -- and it is not that of a split's second part
   not-second : (i : ℕ) → i < 64 → slot ≡ freeMapping s → i ≡ splitSlot s r b e → ⊥

@@ -25,6 +25,7 @@ use Rattle.vmar_doom.specs.Doomed.{Doomed, marked}
 use Rattle.vmar_cuts.specs.Cuts.{unmapCuts}
 use Rattle.vmar_cuts.specs.Laws.{UnmapLeaves}
 use Rattle.vmar_map.specs.Map.{mapping, mapped}
+use Rattle.vmar_map.specs.declared.MapExtResult.{MapExtResult}
 use Rattle.vmar_map.specs.declared.MapExtResult.the-variants as result
 use Rattle.vmar_laws.specs.Later.{Later}
 use Rattle.vmar_laws.specs.Search.{FreeIn}
@@ -32,6 +33,7 @@ use Rattle.vmar_prune.specs.Prune.{cutSpace, cutFlags}
 use Rattle.vmar_prune_laws.specs.Cut.{SameAt, Cut}
 use Rattle.vmar_unmap.specs.Unmap.{State, cutState, tablesOf}
 use Rattle.vmar_overwrite.specs.Overwrite.{OverwriteDone, newSlot, withNew, uncut, overwritten}
+use Rattle.vmar_overwrite_laws.specs.Answers.{NewSlot, OverwriteAnswers}
 
 -- t and its page flags g have in slot i a mapping of the region in slot r: at this address, of this length, of VMO v from `at` on, with permissions p and page flags fl
 pub record NewMapping (t : Space) (g : List ℕ) (r i addr v at len p fl : ℕ) : Type 0 where
@@ -63,9 +65,9 @@ pub record Accepted (base : ℕ) (st out : State) (r addr : ℕ) (o : Offset) (v
   pub passes : Passes (out .space) (out .flags)
   pub arrays : Arrays (out .space)
   pub good : Good (out .pool) base (out .used)
-  -- the mapping, in a slot that was free before the call
+  -- the mapping, in the lowest slot that was free before the call, or the next where a split takes that one
   pub slot : ℕ
-  pub free : isMapping (st .space) slot ≡ false
+  pub free : NewSlot (st .space) r addr (addr + len) slot
   pub mapping : NewMapping (out .space) (out .flags) r slot addr vmo at len permissions flags
   -- at the offset asked for, a whole number of pages; so is its address
   pub asked : (off : ℕ) × (o ≡ offset.Some off) × (addr ≡ regionAt (st .space) r .addr + off) × (off % 4096 ≡ 0)
@@ -107,6 +109,9 @@ pub record Overwrites (base : ℕ) (st : State) (id : ℕ) (o : Offset) (vmo vmo
       → Replaced base st (out .state) (slotOf (st .space) id) addr (addr + len) (mapping (st .space) (slotOf (st .space) id) off vmo at len permissions) flags
   -- ids "never come back", refused or not
   pub later : Later (st .space) (out .state .space)
+  -- what the call answers, and no second answer fits
+  pub answers : OverwriteAnswers st id o vmo-len at len permissions flags faults (out .result)
+  pub only : (x : MapExtResult) → OverwriteAnswers st id o vmo-len at len permissions flags faults x → x ≡ out .result
 
 pub record OverwritesAll : Type 0 where
   pub holds : (base : ℕ) (st : State) → Arrays (st .space) → Passes (st .space) (st .flags) → Good (st .pool) base (st .used)

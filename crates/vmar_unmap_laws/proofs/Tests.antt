@@ -25,7 +25,7 @@ use Rattle.vmar_prune.specs.Prune.{splitAt, splitSlot}
 use Rattle.vmar_prune_laws.proofs.Pieces.{before-most, before-least, after-most, after-least, split-is, split-of}
 use Rattle.vmar_unmap.specs.Unmap.{isPartly, partlyAt, deadAt, hasDead, lacksSlot}
 use Rattle.vmar_unmap_laws.specs.Ready.{NeverDead}
-use Rattle.vmar_unmap_laws.specs.Unmaps.{Partly, Short}
+use Rattle.vmar_unmap_laws.specs.Unmaps.{Partly, Split, Short}
 
 -- where some index passes, here is one
 someOf-one : (p : ℕ → Bool) (k i : ℕ) → someOf p i k ≡ true → (j : ℕ) × (j < i + k) × (p j ≡ true)
@@ -144,41 +144,39 @@ unfolding lacksSlot
 lacks-from s r b e l q = rw (lt-ltb (splitSlot s r b e) 64 l, eq-eqb (freeMapping s) 64 q)
 
 module _ (s : Space) (r b e : ℕ) where
-  pub short-is : lacksSlot s r b e ≡ true → Short s r b e (splitSlot s r b e)
-  short-is t =
-      let w = lacks-parts s r b e t in
+  -- the slot of a mapping that is split
+  pub split-found : splitSlot s r b e < 64 → Split s r b e (splitSlot s r b e)
+  split-found l =
       let i = splitSlot s r b e in
-      let k = split-is (mappingAt s i) r b e (first-passes (splitAt s r b e) 64 (w .0)) in
+      let k = split-is (mappingAt s i) r b e (first-passes (splitAt s r b e) 64 l) in
       let k2 = k .2 in
       let k3 = k .3 in
       let x = before-most (mappingAt s i) b .1 in
       let y = after-most (mappingAt s i) e .1 in
-      let z = w .1 in
-      record {
-        slot = w .0;
-        live = k .0;
-        region = k .1;
-        before = omega arith;
-        after = omega arith;
-        full = λ j l. not-false _ (before-first (isFreeMapping s) 64 j (omega arith));
-      }
+      record { slot = l; live = k .0; region = k .1; before = omega arith; after = omega arith }
 
-  pub short-of : (i : ℕ) → b ≤ e → Short s r b e i → lacksSlot s r b e ≡ true
-  short-of i h k =
+  pub split-there : b ≤ e → (i : ℕ) → Split s r b e i → splitSlot s r b e < 64
+  split-there h i k =
       let x = k .before in
       let y = k .after in
+      let l = k .slot in
       let u = before-least (mappingAt s i) b 1 (omega arith) (omega arith) in
       let v = after-least (mappingAt s i) e 1 (omega arith) (omega arith) in
-      lacks-from s r b e (found (split-of (mappingAt s i) r b e (k .live) (k .region) (omega arith) (omega arith))) full
-    where
-      found : splitAt s r b e i ≡ true → splitSlot s r b e < 64
-      found t =
-          let l = k .slot in
-          ⊎-elim
-          (λ (n : i < splitSlot s r b e). clash _ t (before-first (splitAt s r b e) 64 i n))
-          (λ (n : splitSlot s r b e ≤ i). omega arith)
-          (below? i (splitSlot s r b e))
+      ⊎-elim
+      (λ (n : i < splitSlot s r b e).
+      clash _ (split-of (mappingAt s i) r b e (k .live) (k .region) (omega arith) (omega arith)) (before-first (splitAt s r b e) 64 i n))
+      (λ (n : splitSlot s r b e ≤ i). omega arith)
+      (below? i (splitSlot s r b e))
 
+  pub short-is : lacksSlot s r b e ≡ true → Short s r b e (splitSlot s r b e)
+  short-is t =
+      let w = lacks-parts s r b e t in
+      let z = w .1 in
+      record { split = split-found (w .0); full = λ j l. not-false _ (before-first (isFreeMapping s) 64 j (omega arith)) }
+
+  pub short-of : (i : ℕ) → b ≤ e → Short s r b e i → lacksSlot s r b e ≡ true
+  short-of i h k = lacks-from s r b e (split-there h i (k .split)) full
+    where
       full : freeMapping s ≡ 64
       full =
           let m = first-most (isFreeMapping s) 64 in

@@ -41,13 +41,17 @@ pub record Partly (s : Space) (r b e i : ℕ) : Type 0 where
   pub to : b < regionAt s i .addr + regionAt s i .size
   pub beyond : (b ≤ regionAt s i .addr) × (regionAt s i .addr + regionAt s i .size ≤ e) → ⊥
 
--- a mapping of r, in slot i, has bytes before b and from e on, and no slot is free for the second part
-pub record Short (s : Space) (r b e i : ℕ) : Type 0 where
+-- a mapping of r, in slot i, has bytes before b and from e on: cutting [b, e) out splits it
+pub record Split (s : Space) (r b e i : ℕ) : Type 0 where
   pub slot : i < 64
   pub live : isMapping s i ≡ true
   pub region : mappingAt s i .region ≡ r
   pub before : mappingAt s i .addr < b
   pub after : e < mappingAt s i .addr + mappingAt s i .size
+
+-- and no slot is free for the second part
+pub record Short (s : Space) (r b e i : ℕ) : Type 0 where
+  pub split : Split s r b e i
   pub full : (j : ℕ) → j < 64 → isMapping s j ≡ true
 
 -- no child is partly covered, and slots suffice
