@@ -1,19 +1,18 @@
 -- Lookups by what their tests show.
 use Prim.Native.Nat.{ℕ, zero, suc, _+_, _-_, _/_, _≤_, _<_}
-use mathlib.Core.Path.{_≡_, refl, sym, _∙_, ap, subst}
-use mathlib.Core.Bool.{Bool, true, false}
+use mathlib.Core.Path.{_≡_, refl, ap, subst}
+use mathlib.Core.Bool.{true, false}
 use mathlib.Core.List.{List}
-use mathlib.Core.Logic.{_⊎_, inl, inr, ⊎-elim}
+use mathlib.Core.Logic.{⊎-elim}
 use native.Mathlib.Omega.{arith}
 use lib.Dec.{ltb, eqb}
-use borrow.Author.Tests.{ltb-true, ltb-false, eqb-true, eq-eqb}
-use Rattle.paging.proofs.Cases.{no-truth}
-use Rattle.scan.specs.Scan.{first}
+use borrow.Author.Tests.{ltb-true, eqb-true, eq-eqb}
+use Rattle.paging.proofs.Cases.{no-truth, clash}
 use Rattle.scan.proofs.Scans.{tell, first-passes}
 use Rattle.refusal.specs.declared.Refusal.{Refusal}
 use Rattle.refusal.specs.declared.Refusal.the-variants.{NotMapped, NothingThere}
 use Rattle.space.specs.Range.{contains}
-use Rattle.space.specs.Space.{regionAt, mappingAt, isMapping, regionPlace, mappingPlace}
+use Rattle.space.specs.Space.{regionAt, mappingAt, regionPlace, mappingPlace}
 use Rattle.space.specs.Passes.{Passes, LiveIn}
 use Rattle.space.specs.declared.Space.{Space}
 use Rattle.space.proofs.Ranges.{holds}
@@ -71,7 +70,7 @@ module _ (s : Space) (x r : ℕ) where
   abbrev pub Shown : Next → Type 0
   Shown (next.Down c) = Downward c
   Shown (next.Mapping m) = AtMapping m
-  Shown (next.Refused why) = Unit {0}
+  Shown (next.Refused why) = contains (regionAt s r .addr) (regionAt s r .size) x ≡ true → why ≡ NothingThere
 
   pub shown : Shown (stepAt s x r)
   shown =
@@ -92,10 +91,10 @@ module _ (s : Space) (x r : ℕ) where
         is = refl;
         holds = first-passes (holdsMapping s r x) (s .mapcount) (ltb-true _ _ h);
       }))
-      (λ (h : ltb (mappingHolding s r x) (s .mapcount) ≡ false). subst Shown (nothing-there c (childHolding s r x) refl l (mappingHolding s r x) refl h) tt)
+      (λ (h : ltb (mappingHolding s r x) (s .mapcount) ≡ false). subst Shown (nothing-there c (childHolding s r x) refl l (mappingHolding s r x) refl h) (λ d. refl))
       (tell (ltb (mappingHolding s r x) (s .mapcount))))
       (tell (ltb (childHolding s r x) (s .regcount))))
-      (λ (c : contains (regionAt s r .addr) (regionAt s r .size) x ≡ false). subst Shown (outside c) tt)
+      (λ (c : contains (regionAt s r .addr) (regionAt s r .size) x ≡ false). subst Shown (outside c) (λ d. clash _ d c))
       (tell (contains (regionAt s r .addr) (regionAt s r .size) x))
 
   -- the child that a step goes to lives
@@ -155,6 +154,27 @@ module _ (s : Space) (x : ℕ) where
 
   pub found-holds : (d r m : ℕ) → LiveIn s r → look s x d r ≡ found.Mapping m → Holds s x m
   found-holds d r m live e = ended d r m live e .held
+
+-- where no mapping holds the address, a lookup from a region that holds it ends at nothing
+module _ (s : Space) (x : ℕ) (none : (m : ℕ) → Holds s x m → ⊥) where
+  abbrev Bare : ℕ → Found → Type 0
+  Bare r y = LiveIn s r → contains (regionAt s r .addr) (regionAt s r .size) x ≡ true → y ≡ found.Refused NothingThere
+
+  bare-by : (d r : ℕ) → ((c : ℕ) → Bare c (look s x d c)) → (n : Next) → stepAt s x r ≡ n → Bare r (follow (look s x d) n)
+  bare-by d r deeper (next.Down c) e live h =
+      let a : Downward s x r c = subst (Shown s x r) e (shown s x r) in
+      deeper c (child-lives s x r c live e)
+      (subst (λ (i : ℕ). contains (regionAt s i .addr) (regionAt s i .size) x ≡ true) (a .is) (owned-is _ _ _ _ _ (a .holds) .1))
+  bare-by d r deeper (next.Mapping m) e live h =
+      let a : AtMapping s x r m = subst (Shown s x r) e (shown s x r) in
+      let at = mapping-place (live .passes) (a .place) (a .below) in
+      absurd (none (mappingPlace s (a .place)) (record { slot = at .0; live = at .1; holds = owned-is _ _ _ _ _ (a .holds) .1 }))
+  bare-by d r deeper (next.Refused why) e live h = let k : Shown s x r (next.Refused why) = subst (Shown s x r) e (shown s x r) in ap (λ (y : Refusal). found.Refused y) (k h)
+
+  pub bare : (d r : ℕ) → Bare r (look s x d r)
+  unfolding look
+  bare zero r live h = refl
+  bare (suc d) r live h = bare-by d r (bare d) (stepAt s x r) refl live h
 
 -- the page of an address in the mapping that holds it
 pub page-in : (s : Space) (flags : List ℕ) (x m : ℕ) → Passes s flags → Holds s x m

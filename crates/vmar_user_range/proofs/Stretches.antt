@@ -133,7 +133,7 @@ module _ (f : List ℕ) (at n k access : ℕ) (e : n ≡ k) (user : grants (getD
 
 module _ (s : Space) (f : List ℕ) (p : Passes s f) (r : ℕ) (l : r < 32) (a : isRegion s r ≡ true) (addr access : ℕ) where
   laws : Lookups s f
-  laws = lookups s f p
+  laws = lookups .holds s f p
 
   -- a lookup that ends at no mapping gives 4
   missed : (page : ℕ) → ((m : ℕ) → look s (startOf addr page) 32 r ≡ found.Mapping m → ⊥) → verdict s f r addr access page ≡ Refused NotFound
