@@ -17,6 +17,15 @@ pub const FLAGS: usize = 32768;
 // The parent of the root.
 pub const NO_REGION: usize = 32;
 
+// The ranges that a root may have.
+pub const USER_ASPACE_BASE: u64 = 0x20_0000;
+
+pub const USER_ASPACE_SIZE: u64 = 0x7fff_ffdf_f000;
+
+pub const KERNEL_ASPACE_BASE: u64 = 0xffff_ff02_0000_0000;
+
+pub const KERNEL_ASPACE_SIZE: u64 = 0x80_0000_0000;
+
 // A slot is free or holds a live region.
 pub struct Region {
     pub live: bool,

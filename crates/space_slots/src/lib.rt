@@ -2,12 +2,16 @@
 // with its loops inside, and what is asked of one record is a function of records.
 use common::defs::MMUFlags;
 use common::defs::VmarFlags;
+use space::KERNEL_ASPACE_BASE;
+use space::KERNEL_ASPACE_SIZE;
 use space::MAPPINGS;
 use space::Mapping;
 use space::NO_REGION;
 use space::REGIONS;
 use space::Region;
 use space::Space;
+use space::USER_ASPACE_BASE;
+use space::USER_ASPACE_SIZE;
 ghost use mathlib.Core.Path.{_≡_};
 ghost use Prim.Native.Nat.{ℕ, _/_, _<_, _≤_};
 ghost use lib.ListN.{length, getD};
@@ -15,14 +19,6 @@ ghost use Rattle.paging.specs.Choice.{Decided};
 ghost use Rattle.space.specs.Space.{blankRegion, blankMapping};
 ghost use Rattle.space.specs.Passes.{In, RootRange};
 ghost use Rattle.space_slots.specs.Slots.{Places, GoodRegion, RegionSlot, RegionSlots, TreePlace, TreePlaces, GoodMapping, MappingSlot, MappingSlots};
-
-const USER_ASPACE_BASE: u64 = 0x20_0000;
-
-const USER_ASPACE_SIZE: u64 = 0x7fff_ffdf_f000;
-
-const KERNEL_ASPACE_BASE: u64 = 0xffff_ff02_0000_0000;
-
-const KERNEL_ASPACE_SIZE: u64 = 0x80_0000_0000;
 
 const LAST: u64 = 0xffff_ffff_ffff_ffff;
 

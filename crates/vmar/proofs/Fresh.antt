@@ -15,7 +15,7 @@ use Rattle.space.specs.declared.Mapping.{Mapping}
 use Rattle.space.specs.declared.Space.{Space}
 use Rattle.space.specs.Arrays.{Arrays}
 use Rattle.vmar_laws.proofs.Slots.{Fills, here, there, each, blanks}
-use Rattle.vmar.specs.Calls.{newSpace}
+use Rattle.vmar_root.specs.Root.{newSpace}
 use Rattle.vmar.specs.Laws.{Zeroed, Fresh}
 
 -- a list of one thing holds it everywhere, past its end too where the default is that thing

@@ -5,12 +5,10 @@ use mathlib.Core.Path.{_≡_}
 use mathlib.Core.Bool.{Bool, true}
 use mathlib.Core.List.{List}
 use lib.Dec.{ltb, eqb}
-use lib.ListN.{set, replicate}
 use Rattle.paging.specs.Choice.{pick, Answered}
 use Rattle.refusal.specs.Reply.{Told, refused}
 use Rattle.refusal.specs.declared.Refusal.the-variants.{BadState, BadHandle}
 use Rattle.form.specs.Form.{Good}
-use Rattle.space.specs.Space.{blankRegion, blankMapping}
 use Rattle.space.specs.Passes.{Passes}
 use Rattle.space.specs.declared.Space.{Space}
 use Rattle.vmar_offset.specs.Offset.{slotOf}
@@ -27,18 +25,6 @@ use Rattle.vmar_unmap.specs.Unmap.{State, CutDone, unmapped, clearedCall}
 use Rattle.vmar_user_range.specs.UserRange.{userRange}
 use Rattle.vmar_user_range.specs.declared.UserRangeResult.{UserRangeResult}
 use Rattle.vmar.specs.Replies.{allocateReply, mapReply, flagsReply, userRangeReply, cutReply, protectReply}
-
--- a fresh space: the root with id 0 in slot 0, flags CAN_MAP_READ, CAN_MAP_WRITE, CAN_MAP_EXECUTE and CAN_MAP_SPECIFIC as in the Rust
-abbrev pub newSpace : ℕ → ℕ → Space
-newSpace addr size = record {
-  regions = set (replicate 32 blankRegion) 0 (record { live = true; id = 0; addr = addr; size = size; flags = 0x78; parent = 32 });
-  mappings = replicate 64 blankMapping;
-  reglist = replicate 32 0;
-  regcount = 1;
-  maplist = replicate 64 0;
-  mapcount = 0;
-  nextid = 1;
-}
 
 -- the answer of a lookup, and the space
 pub record FlagsDone : Type 0 where

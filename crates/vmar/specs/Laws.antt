@@ -26,7 +26,8 @@ use Rattle.form.specs.Form.{Good}
 use Rattle.vmar_laws.specs.Later.{Later}
 use Rattle.vmar_laws.specs.Allocates as allocates
 use Rattle.vmar_laws.specs.Maps as maps
-use Rattle.vmar.specs.Calls.{newSpace, AllocateFits, MapFits, FlagsFit, UserRangeFits, VaddrFits, before, MapExtFits, CutFits, UnmapFits, ClearFits, ProtectFits, protectedState, FlagsDone, UserRangeDone, ProtectedDone}
+use Rattle.vmar_root.specs.Root.{newSpace}
+use Rattle.vmar.specs.Calls.{AllocateFits, MapFits, FlagsFit, UserRangeFits, VaddrFits, before, MapExtFits, CutFits, UnmapFits, ClearFits, ProtectFits, protectedState, FlagsDone, UserRangeDone, ProtectedDone}
 
 -- "a proof shows that no second answer fits"
 pub record Once : Type 0 where

@@ -4,9 +4,6 @@ use common::defs::MMUFlags;
 use common::defs::VirtAddr;
 use common::defs::VmarFlags;
 use refusal::Refusal;
-use space::Mapping;
-use space::NO_REGION;
-use space::Region;
 use space::Space;
 use vmar_allocate::AllocateResult;
 use vmar_lookup::FlagsResult;
@@ -23,18 +20,8 @@ ghost use Prim.Native.Nat.{_/_};
 ghost use Rattle.form.specs.Form.{Good};
 ghost use Rattle.space.specs.Passes.{Passes, Passing};
 ghost use Rattle.vmar_overwrite.specs.Overwrite as over;
-ghost use Rattle.vmar.specs.Calls.{newSpace, AllocateFits, MapFits, flagsCall, FlagsFit, UserRangeFits, vaddrCall, VaddrFits, mapExt, MapExtFits, UnmapFits, ClearFits, ProtectFits};
-
-const USER_ASPACE_BASE: u64 = 0x20_0000;
-
-const USER_ASPACE_SIZE: u64 = 0x7fff_ffdf_f000;
-
-const KERNEL_ASPACE_BASE: u64 = 0xffff_ff02_0000_0000;
-
-const KERNEL_ASPACE_SIZE: u64 = 0x80_0000_0000;
-
-// CAN_MAP_READ, CAN_MAP_WRITE, CAN_MAP_EXECUTE and CAN_MAP_SPECIFIC.
-const ROOT_FLAGS: u64 = 0x78;
+ghost use Rattle.vmar_root.specs.Root.{newSpace};
+ghost use Rattle.vmar.specs.Calls.{AllocateFits, MapFits, flagsCall, FlagsFit, UserRangeFits, vaddrCall, VaddrFits, mapExt, MapExtFits, UnmapFits, ClearFits, ProtectFits};
 
 // A space with the calls on it.
 pub struct AddressSpace {
@@ -78,50 +65,6 @@ pub struct Cut {
 pub struct Protected {
     pub result: ProtectResult,
     pub space: AddressSpace,
-}
-
-// A space with a root of this range and nothing in it.
-fn new_space(addr: VirtAddr, size: u64) -> Space
-    ensures { λ r. ⌜ r ≡ newSpace addr size ⌝ }
-{
-    let free = Region {
-        live: false,
-        id: 0,
-        addr: 0,
-        size: 0,
-        flags: 0,
-        parent: 0,
-    };
-    let unmapped = Mapping {
-        live: false,
-        region: 0,
-        addr: 0,
-        size: 0,
-        vmo: 0,
-        offset: 0,
-        permissions: 0,
-    };
-    let mut regions = [free; 32];
-    regions[0] = Region {
-        live: true,
-        id: 0,
-        addr: addr,
-        size: size,
-        flags: ROOT_FLAGS,
-        parent: NO_REGION,
-    };
-    let mappings = [unmapped; 64];
-    let reglist = [0usize; 32];
-    let maplist = [0usize; 64];
-    Space {
-        regions: regions,
-        mappings: mappings,
-        reglist: reglist,
-        regcount: 1,
-        maplist: maplist,
-        mapcount: 0,
-        nextid: 1,
-    }
 }
 
 fn flags_in(s: Space, flags: &[u8], id: u64, vaddr: VirtAddr) -> FlagsResult
@@ -222,7 +165,7 @@ impl AddressSpace {
     pub fn new_root() -> AddressSpace
         ensures { λ x. ⌜ x .space ≡ newSpace 0x200000 0x7fffffdff000 ⌝ }
     {
-        let s = new_space(USER_ASPACE_BASE, USER_ASPACE_SIZE);
+        let s = vmar_root::new_root();
         AddressSpace { space: s }
     }
 
@@ -230,7 +173,7 @@ impl AddressSpace {
     pub fn new_kernel() -> AddressSpace
         ensures { λ x. ⌜ x .space ≡ newSpace 0xffffff0200000000 0x8000000000 ⌝ }
     {
-        let s = new_space(KERNEL_ASPACE_BASE, KERNEL_ASPACE_SIZE);
+        let s = vmar_root::new_kernel();
         AddressSpace { space: s }
     }
 
