@@ -1,7 +1,7 @@
 -- Parts that make up the whole length leave no gap: no two mappings of a region overlap, so that the parts in a range are at most its length, and a byte that none
 -- holds would make them less.
 use Prim.Native.Nat.{ℕ, zero, suc, _+_, _-_, _≤_, _<_}
-use mathlib.Core.Path.{_≡_, refl, sym, _∙_}
+use mathlib.Core.Path.{_≡_, refl, sym, _∙_, ap, subst}
 use mathlib.Core.Bool.{Bool, true, false}
 use mathlib.Core.List.{List}
 use mathlib.Core.Logic.{_⊎_, inl, inr, ⊎-elim}
@@ -20,6 +20,7 @@ use Rattle.space.specs.declared.Space.{Space}
 use Rattle.space.proofs.Facts.{mapping-place}
 use Rattle.space.proofs.Ranges as ranges
 use Rattle.vmar_protect.specs.Protect.{touching, partFrom, partTo, partIn, total}
+use Rattle.vmar_protect.specs.Answers.{HeldIn}
 use Rattle.vmar_protect.proofs.Parts.{touch-means, touch-of, from-is, to-is, part-there, part-none}
 
 -- a part by where the mapping lies
@@ -79,6 +80,45 @@ part-split m r a x y b h i j side = ⊎-elim own other (same? (m .region) r)
         let same : partFrom m a ≡ partFrom m y = ⊎-elim (λ (s : partFrom m a ≡ m .addr). ⊎-elim (λ (t : partFrom m y ≡ m .addr). s ∙ sym t) (λ (t : partFrom m y ≡ y). omega arith) (fy .2)) (λ (s : partFrom m a ≡ a). ⊎-elim (λ (t : partFrom m y ≡ m .addr). omega arith) (λ (t : partFrom m y ≡ y). omega arith) (fy .2)) (fa .2) in
         omega arith)
         side
+
+-- the parts on two sides of x make up the part
+part-add : (m : Mapping) (r a x b : ℕ) → a ≤ x → x ≤ b → partIn m r a b ≡ partIn m r a x + partIn m r x b
+part-add m r a x b h j =
+    ⊎-elim
+    (λ (l : m .addr < x). ⊎-elim
+    (λ (k : x < m .addr + m .size). ⊎-elim (λ (e : m .region ≡ r). within l k e) (λ (d : m .region ≡ r → ⊥). omega (arith, other-none m r a b d, other-none m r a x d, other-none m r x b d)) (same? (m .region) r))
+    (λ (k : m .addr + m .size ≤ x). part-split m r a x x b h (omega arith) j (inl k))
+    (below? x (m .addr + m .size)))
+    (λ (l : x ≤ m .addr). part-split m r a x x b h (omega arith) j (inr l))
+    (below? (m .addr) x)
+  where
+    within : m .addr < x → x < m .addr + m .size → m .region ≡ r → partIn m r a b ≡ partIn m r a x + partIn m r x b
+    within l k e =
+        let p = part-of m r a b (omega arith) e in
+        let q = part-of m r a x h e in
+        let w = part-of m r x b j e in
+        let fa = from-is m a in
+        let fa2 : partFrom m a ≤ x = ⊎-elim (λ (z : partFrom m a ≡ m .addr). omega arith) (λ (z : partFrom m a ≡ a). omega arith) (fa .2) in
+        let fx : partFrom m x ≡ x = ⊎-elim (λ (z : partFrom m x ≡ m .addr). let y = from-is m x .1 in omega arith) (λ (z : partFrom m x ≡ x). z) (from-is m x .2) in
+        let tb : x ≤ partTo m b = ⊎-elim (λ (z : partTo m b ≡ m .addr + m .size). omega arith) (λ (z : partTo m b ≡ b). omega arith) (to-is m b .2) in
+        let tx : partTo m x ≡ x = ⊎-elim (λ (z : partTo m x ≡ m .addr + m .size). let y = to-is m x .1 in omega arith) (λ (z : partTo m x ≡ x). z) (to-is m x .2) in
+        omega arith
+
+-- so do their totals
+total-add : (s : Space) (r n a x b : ℕ) → a ≤ x → x ≤ b → total s r a b n ≡ total s r a x n + total s r x b n
+unfolding total
+total-add s r zero a x b h j = refl
+total-add s r (suc n) a x b h j = let p = total-add s r n a x b h j in let q = part-add (mappingAt s (mappingPlace s n)) r a x b h j in omega arith
+
+-- each part is in the total
+total-least : (s : Space) (r a b n k : ℕ) → k < n → partIn (mappingAt s (mappingPlace s k)) r a b ≤ total s r a b n
+unfolding total
+total-least s r a b zero k l = absurd (omega arith)
+total-least s r a b (suc n) k l =
+    ⊎-elim
+    (λ (e : k ≡ n). let q = ap (λ (i : ℕ). partIn (mappingAt s (mappingPlace s i)) r a b) e in omega arith)
+    (λ (e : k ≡ n → ⊥). let q = total-least s r a b n k (omega arith) in omega arith)
+    (same? k n)
 
 module _ (s : Space) (f : List ℕ) (g : Passes s f) (r : ℕ) where
   -- the total by a gap [x, y) that no mapping of the region at the places before n meets
@@ -169,28 +209,87 @@ module _ (s : Space) (f : List ℕ) (g : Passes s f) (r : ℕ) where
       (λ (t : eqb (mappingAt s (mappingPlace s k) .region) r ≡ false). no-truth (rw t at e))
       (tell (eqb (mappingAt s (mappingPlace s k) .region) r))
 
-  -- where none holds x, each lies before or behind it
-  beside : (x k : ℕ) → holdsAt x k ≡ false → mappingAt s (mappingPlace s k) .region ≡ r
+  -- by the slot, and by the place
+  at-place : (x k : ℕ) → k < s .mapcount → mappingAt s (mappingPlace s k) .region ≡ r → contains (mappingAt s (mappingPlace s k) .addr) (mappingAt s (mappingPlace s k) .size) x ≡ true
+      → HeldIn s r x
+  at-place x k l e c = let q = mapping-place g k l in record { mapping = mappingPlace s k; slot = q .0; live = q .1; mine = e; holds = c }
+
+  place-of : (x : ℕ) → HeldIn s r x
+      → (k : ℕ) × (k < s .mapcount) × (mappingAt s (mappingPlace s k) .region ≡ r) × (contains (mappingAt s (mappingPlace s k) .addr) (mappingAt s (mappingPlace s k) .size) x ≡ true)
+  place-of x h =
+      let q = g .mappings .whole (h .mapping) (h .slot) (h .live) in (
+        q .0,
+        q .1,
+        subst (λ (i : ℕ). mappingAt s i .region ≡ r) (sym (q .2)) (h .mine),
+        subst (λ (i : ℕ). contains (mappingAt s i .addr) (mappingAt s i .size) x ≡ true) (sym (q .2)) (h .holds),
+      )
+
+  -- a mapping of the region holds x, or none does
+  pub held? : (x : ℕ) → HeldIn s r x ⊎ (HeldIn s r x → ⊥)
+  held? x =
+      ⊎-elim
+      (λ (c : first (holdsAt x) 0 (s .mapcount) < s .mapcount).
+      let q = holds-both x (first (holdsAt x) 0 (s .mapcount)) (first-passes (holdsAt x) (s .mapcount) c) in
+      inl (at-place x (first (holdsAt x) 0 (s .mapcount)) c (q .0) (q .1)))
+      (λ (c : s .mapcount ≤ first (holdsAt x) 0 (s .mapcount)). inr (λ h.
+      let q = place-of x h in
+      let l = q .1 in
+      clash _ (q .3) (rw (eq-eqb (mappingAt s (mappingPlace s (q .0)) .region) r (q .2)) at (before-first (holdsAt x) (s .mapcount) (q .0) (omega arith)))))
+      (below? (first (holdsAt x) 0 (s .mapcount)) (s .mapcount))
+
+  -- where none does, each lies before or behind it
+  beside : (x k : ℕ) → (HeldIn s r x → ⊥) → k < s .mapcount → mappingAt s (mappingPlace s k) .region ≡ r
       → (mappingAt s (mappingPlace s k) .addr + mappingAt s (mappingPlace s k) .size ≤ x) ⊎ (x + 1 ≤ mappingAt s (mappingPlace s k) .addr)
-  beside x k e i =
+  beside x k none l i =
       ⊎-elim
       (λ (c : x < mappingAt s (mappingPlace s k) .addr). inr (omega arith))
       (λ (c : mappingAt s (mappingPlace s k) .addr ≤ x). ⊎-elim
-      (λ (d : x < mappingAt s (mappingPlace s k) .addr + mappingAt s (mappingPlace s k) .size).
-      clash _ (ranges.holds-of _ _ _ c d) (rw (eq-eqb (mappingAt s (mappingPlace s k) .region) r i) at e))
+      (λ (d : x < mappingAt s (mappingPlace s k) .addr + mappingAt s (mappingPlace s k) .size). absurd (none (at-place x k l i (ranges.holds-of _ _ _ c d))))
       (λ (d : mappingAt s (mappingPlace s k) .addr + mappingAt s (mappingPlace s k) .size ≤ x). inl d)
       (below? x (mappingAt s (mappingPlace s k) .addr + mappingAt s (mappingPlace s k) .size)))
       (below? x (mappingAt s (mappingPlace s k) .addr))
 
   -- a total of the whole length covers each address
-  pub covers : (begin len x : ℕ) → total s r begin (begin + len) (s .mapcount) ≡ len → begin ≤ x → x < begin + len
-      → (k : ℕ) × (k < s .mapcount) × (mappingAt s (mappingPlace s k) .region ≡ r) × (contains (mappingAt s (mappingPlace s k) .addr) (mappingAt s (mappingPlace s k) .size) x ≡ true)
+  pub covers : (begin len x : ℕ) → total s r begin (begin + len) (s .mapcount) ≡ len → begin ≤ x → x < begin + len → HeldIn s r x
   covers begin len x e l h =
       ⊎-elim
-      (λ (c : first (holdsAt x) 0 (s .mapcount) < s .mapcount). let q = holds-both x (first (holdsAt x) 0 (s .mapcount)) (first-passes (holdsAt x) (s .mapcount) c) in (first (holdsAt x) 0 (s .mapcount), c, q .0, q .1))
-      (λ (c : s .mapcount ≤ first (holdsAt x) 0 (s .mapcount)).
-      let q = total-split (s .mapcount) begin x (x + 1) (begin + len) l (omega arith) (omega arith) (λ k u i. beside x k (before-first (holdsAt x) (s .mapcount) k (omega arith)) i) in
+      (λ (c : HeldIn s r x). c)
+      (λ (none : HeldIn s r x → ⊥).
+      let q = total-split (s .mapcount) begin x (x + 1) (begin + len) l (omega arith) (omega arith) (λ k u i. beside x k none u i) in
       let a = total-most (s .mapcount) begin x (omega arith) l in
       let b = total-most (s .mapcount) (x + 1) (begin + len) (omega arith) (omega arith) in
       absurd (omega arith))
-      (below? (first (holdsAt x) 0 (s .mapcount)) (s .mapcount))
+      (held? x)
+
+  -- and where each address is held, it is the whole length: an address adds one
+  one-byte : (x : ℕ) → HeldIn s r x → 1 ≤ total s r x (x + 1) (s .mapcount)
+  one-byte x h =
+      let q = place-of x h in
+      let m : Mapping = mappingAt s (mappingPlace s (q .0)) in
+      let c = ranges.holds _ _ _ (q .3) in
+      let c0 = c .0 in
+      let c1 = c .1 in
+      let fx : partFrom m x ≡ x = ⊎-elim (λ (z : partFrom m x ≡ m .addr). let y = from-is m x .1 in omega arith) (λ (z : partFrom m x ≡ x). z) (from-is m x .2) in
+      let tx : partTo m (x + 1) ≡ x + 1 = ⊎-elim (λ (z : partTo m (x + 1) ≡ m .addr + m .size). let y = to-is m (x + 1) .1 in omega arith) (λ (z : partTo m (x + 1) ≡ x + 1). z) (to-is m (x + 1) .2) in
+      let w = part-of m r x (x + 1) (omega arith) (q .2) in
+      let y = total-least s r x (x + 1) (s .mapcount) (q .0) (q .1) in
+      omega arith
+
+  pub filled : (begin len : ℕ) → ((x : ℕ) → begin ≤ x → x < begin + len → HeldIn s r x) → total s r begin (begin + len) (s .mapcount) ≡ len
+  filled begin zero each = let q = total-most (s .mapcount) begin (begin + 0) (omega arith) (omega arith) in omega arith
+  filled begin (suc n) each =
+      let p = filled begin n (λ x l h. each x l (omega arith)) in
+      let y = one-byte (begin + n) (each (begin + n) (omega arith) (omega arith)) in
+      let q = total-add s r (s .mapcount) begin (begin + n) (begin + suc n) (omega arith) (omega arith) in
+      let e = ap (λ (z : ℕ). total s r (begin + n) z (s .mapcount)) {x = begin + suc n} {y = begin + n + 1} (omega arith) in
+      let t = total-most (s .mapcount) begin (begin + suc n) (omega arith) (omega arith) in
+      omega arith
+
+  -- each address of a range is held, or one is not
+  pub gap? : (begin len : ℕ) → ((x : ℕ) → begin ≤ x → x < begin + len → HeldIn s r x) ⊎ ((x : ℕ) × (begin ≤ x) × (x < begin + len) × (HeldIn s r x → ⊥))
+  gap? begin zero = inl (λ x l h. absurd (omega arith))
+  gap? begin (suc n) = ⊎-elim (λ each. ⊎-elim (λ (y : HeldIn s r (begin + n)). inl (more each y)) (λ (y : HeldIn s r (begin + n) → ⊥). inr (begin + n, omega arith, omega arith, y)) (held? (begin + n)))
+      (λ w. let l = w .2 in inr (w .0, w .1, omega arith, w .3)) (gap? begin n)
+    where
+      more : ((x : ℕ) → begin ≤ x → x < begin + n → HeldIn s r x) → HeldIn s r (begin + n) → (x : ℕ) → begin ≤ x → x < begin + suc n → HeldIn s r x
+      more each y x l h = ⊎-elim (λ (z : x ≡ begin + n). subst (HeldIn s r) (sym z) y) (λ (z : x ≡ begin + n → ⊥). each x l (omega arith)) (same? x (begin + n))

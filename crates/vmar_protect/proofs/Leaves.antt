@@ -1,6 +1,6 @@
 -- The pool after a protect, mapping by mapping and page by page.
 use Prim.Native.Nat.{ℕ, zero, suc, _+_, _-_, _*_, _/_, _%_, _^_, _≤_, _<_}
-use mathlib.Core.Path.{_≡_, refl, sym, subst}
+use mathlib.Core.Path.{_≡_, refl, sym, _∙_, ap, subst}
 use mathlib.Core.Bool.{true, false}
 use mathlib.Core.List.{List}
 use mathlib.Core.Logic.{_⊎_, inl, inr, ⊎-elim}
@@ -10,20 +10,21 @@ use Rattle.paging.specs.Format.{leaf}
 use Rattle.paging.specs.Table.{view}
 use Rattle.paging.proofs.Cases.{same?}
 use Rattle.scan.proofs.Scans.{tell}
-use Rattle.x86_64.specs.Entry.{x86}
+use Rattle.common.specs.Flags.{rights}
+use Rattle.x86_64.specs.Entry.{granted, x86}
 use Rattle.form.specs.Form.{Good}
 use Rattle.table_laws.specs.Effects.{showsIn}
 use Rattle.space.specs.Space.{regionAt, mappingAt, isRegion, regionPlace, mappingPlace}
 use Rattle.space.specs.Passes.{pageAt, Passes, RootRange}
 use Rattle.space.specs.declared.Mapping.{Mapping}
 use Rattle.space.specs.declared.Space.{Space}
-use Rattle.space.proofs.Facts.{region-place, child-in, mapping-in}
-use Rattle.vmar_protect.specs.Protect.{withRights, Lent, pageDone, pagesDone, touching, changed, mappingDone, mappingsDone}
-use Rattle.vmar_protect.specs.Laws.{pageAddr, InRange}
-use Rattle.vmar_protect.proofs.Rights.{granted-now}
+use Rattle.space.proofs.Facts.{region-place, mapping-place, child-in, mapping-in}
+use Rattle.vmar_protect.specs.Protect.{withRights, Lent, lent, pageDone, pagesDone, touching, changed, mappingDone, mappingsDone}
+use Rattle.vmar_protect.specs.Laws.{pageAddr, InRange, Over}
+use Rattle.vmar_protect.proofs.Rights.{alike-now, granted-now}
 use Rattle.vmar_protect.proofs.Buffers.{pages-kept, mappings-kept}
-use Rattle.vmar_protect.proofs.Pages.{in-range, range-touches, among}
-use Rattle.vmar_protect.proofs.Tables.{Given, given-stays, carried, Step, step, Alike, alike-none, alike-step, alike-then}
+use Rattle.vmar_protect.proofs.Pages.{pages-stay, few, in-range, range-touches, among, places-stay}
+use Rattle.vmar_protect.proofs.Tables.{Given, Like, same, given-stays, carried, level-back, Step, step, Alike, alike-none, alike-step, alike-then, alike-wider}
 
 -- a root's range lies in one half
 abbrev Half : ℕ → ℕ → Type 0
@@ -77,96 +78,190 @@ module _ {s : Space} {flags : List ℕ} (p : Passes s flags) where
       by (inl h) a b = let w0 = w .page in inl (omega arith)
       by (inr h) a b = let w0 = w .page in let h0 = h .0 in let h1 = h .1 in inr (omega arith, omega arith)
 
--- the pages of a mapping
-module _ (base used access : ℕ) (C : ℕ → Type 0) (canonical : (v : ℕ) → C v → Canonical 4 v) (m : Mapping) (j first : ℕ) where
+-- the pages of a mapping, Q telling what an entry gives for their new flags
+module _ (base used access : ℕ) (Q C : ℕ → Type 0) (canonical : (v : ℕ) → C v → Canonical 4 v) (m : Mapping) (j first : ℕ) where
   -- one page
-  page-step : (t : Lent) → Good (t .pool) base used → (i : ℕ) → C (m .addr + i * 4096) → Step access base (m .addr + i * 4096) (t .pool) (pageDone t (base / 4096) m j access i .pool)
+  page-step : (t : Lent) → Good (t .pool) base used → (i : ℕ) → C (m .addr + i * 4096) → Q (granted (withRights (pageAt (t .flags) j i) access))
+      → Step Q base (m .addr + i * 4096) (t .pool) (pageDone t (base / 4096) m j access i .pool)
   unfolding pageDone
-  page-step t G i c = step (t .pool) base used G (m .addr + i * 4096) (withRights (pageAt (t .flags) j i) access) access (canonical _ c) (granted-now (pageAt (t .flags) j i) access)
+  page-step t G i c fit = step (t .pool) base used G (m .addr + i * 4096) (withRights (pageAt (t .flags) j i) access) Q (canonical _ c) fit
+
+  -- the n pages from the first on are such, and in the slot
+  pub record Run (t : Lent) (n : ℕ) : Type 0 where
+    pub room : first + n ≤ 512
+    pub all : (i : ℕ) → first ≤ i → i < first + n → C (m .addr + i * 4096)
+    pub fits : (i : ℕ) → first ≤ i → i < first + n → Q (granted (withRights (pageAt (t .flags) j i) access))
+
+  less : (t : Lent) (n : ℕ) → Run t (suc n) → Run t n
+  less t n R = let r = R .room in record { room = omega arith; all = λ i l h. R .all i l (omega arith); fits = λ i l h. R .fits i l (omega arith) }
+
+  -- the last of them is yet to be done, and has its flags
+  last-step : (t : Lent) → Good (t .pool) base used → (n : ℕ) → Run t (suc n)
+      → Step Q base (m .addr + (first + n) * 4096) (pagesDone t (base / 4096) m j access first n .pool) (pageDone (pagesDone t (base / 4096) m j access first n) (base / 4096) m j access (first + n) .pool)
+  last-step t G n R =
+      let r = R .room in
+      page-step (pagesDone t (base / 4096) m j access first n) (pages-kept base used t m j access first n .good G) (first + n) (R .all (first + n) (omega arith) (omega arith))
+      (subst (λ (y : ℕ). Q (granted (withRights y access))) (sym (pages-stay base m j access first t n j (first + n) (omega arith) (omega arith) (λ a. let a2 = a .2 in omega arith)))
+      (R .fits (first + n) (omega arith) (omega arith)))
 
   -- all of them
-  pub pages-alike : (t : Lent) → Good (t .pool) base used → (n : ℕ) → ((i : ℕ) → first ≤ i → i < first + n → C (m .addr + i * 4096))
-      → Alike access base C (t .pool) (pagesDone t (base / 4096) m j access first n .pool)
+  pub pages-alike : (t : Lent) → Good (t .pool) base used → (n : ℕ) → Run t n → Alike Q base C (t .pool) (pagesDone t (base / 4096) m j access first n .pool)
   unfolding pagesDone
-  pages-alike t G zero all = alike-none access base C canonical (t .pool)
-  pages-alike t G (suc n) all =
+  pages-alike t G zero R = alike-none Q base C canonical (t .pool)
+  pages-alike t G (suc n) R =
       let u = pagesDone t (base / 4096) m j access first n in
-      alike-then access base C canonical (t .pool) (u .pool) _ (pages-alike t G n (λ i l h. all i l (omega arith)))
-      (alike-step access base C canonical (m .addr + (first + n) * 4096) (u .pool) _ (all (first + n) (omega arith) (omega arith))
-      (page-step u (pages-kept base used t m j access first n .good G) (first + n) (all (first + n) (omega arith) (omega arith))))
+      alike-then Q base C canonical (t .pool) (u .pool) _ (pages-alike t G n (less t n R))
+      (alike-step Q base C canonical (m .addr + (first + n) * 4096) (u .pool) _ (R .all (first + n) (omega arith) (omega arith)) (last-step t G n R))
 
-  -- an address whose leaf is over one of them has the rights then
-  pub pages-given : (t : Lent) → Good (t .pool) base used → (n : ℕ) → ((i : ℕ) → first ≤ i → i < first + n → C (m .addr + i * 4096)) → (i x l w : ℕ) → first ≤ i → i < first + n → Canonical 4 x
+  -- an address whose leaf is over one of them has such flags then
+  pub pages-given : (t : Lent) → Good (t .pool) base used → (n : ℕ) → Run t n → (i x l w : ℕ) → first ≤ i → i < first + n → Canonical 4 x
       → showsIn (t .pool) base (m .addr + i * 4096) ≡ view l w → x86 .kind l w ≡ leaf → x / span l ≡ (m .addr + i * 4096) / span l
-      → Given access (showsIn (pagesDone t (base / 4096) m j access first n .pool) base x)
+      → Given Q (showsIn (pagesDone t (base / 4096) m j access first n .pool) base x)
   unfolding pagesDone
-  pages-given t G zero all i x l w a b cx e k z = absurd (omega arith)
-  pages-given t G (suc n) all i x l w a b cx e k z =
+  pages-given t G zero R i x l w a b cx e k z = absurd (omega arith)
+  pages-given t G (suc n) R i x l w a b cx e k z =
       let u = pagesDone t (base / 4096) m j access first n in
-      let last = page-step u (pages-kept base used t m j access first n .good G) (first + n) (all (first + n) (omega arith) (omega arith)) in
+      let last = last-step t G n R in
       ⊎-elim
       (λ (q : i ≡ first + n).
-      let was = carried access _ _ l w (pages-alike t G n (λ i l h. all i l (omega arith)) .like (m .addr + i * 4096) (canonical _ (all i a b))) e k in
+      let was = carried Q _ _ l w (pages-alike t G n (less t n R) .like (m .addr + i * 4096) (canonical _ (R .all i a b))) e k in
       last .near x l (was .0) (subst (λ (y : ℕ). showsIn (u .pool) base (m .addr + y * 4096) ≡ view l (was .0)) q (was .1)) (was .2) (subst (λ (y : ℕ). x / span l ≡ (m .addr + y * 4096) / span l) q z))
-      (λ (q : i ≡ first + n → ⊥).
-      given-stays access _ _ (last .like x cx) (pages-given t G n (λ i l h. all i l (omega arith)) i x l w a (omega arith) cx e k z))
+      (λ (q : i ≡ first + n → ⊥). given-stays Q _ _ (last .like x cx) (pages-given t G n (less t n R) i x l w a (omega arith) cx e k z))
       (same? i (first + n))
 
--- the address v is that of a page in the range
+-- the address v is that of a page in the range; of one of the mapping at place k
 abbrev pub Page : Space → ℕ → ℕ → ℕ → ℕ → Type 0
 Page s r begin end v = (i : ℕ) × (j : ℕ) × InRange s r begin end i j × (pageAddr s i j ≡ v)
 
+abbrev PageAt : Space → ℕ → ℕ → ℕ → ℕ → ℕ → Type 0
+PageAt s r begin end k v = (j : ℕ) × InRange s r begin end (mappingPlace s k) j × (pageAddr s (mappingPlace s k) j ≡ v)
+
+-- the rights are those that an entry gives for `access`
+abbrev pub Rights : ℕ → ℕ → Type 0
+Rights access n = rights n ≡ rights (granted access)
+
 -- the mappings of a region
 module _ (s : Space) (f : List ℕ) (g : Passes s f) (base used r begin end access : ℕ) (run : begin ≤ end) (low-end : begin % 4096 ≡ 0) (high-end : end % 4096 ≡ 0) where
-  -- each is an address of the two halves
+  -- each page is an address of the two halves
   canonical : (v : ℕ) → Page s r begin end v → Canonical 4 v
   canonical v c = subst (Canonical 4) (c .3) (page-canonical g r begin end (c .0) (c .1) (c .2))
 
+  wider : (k v : ℕ) → PageAt s r begin end k v → Page s r begin end v
+  wider k v c = (mappingPlace s k, c .0, c .1, c .2)
+
+  canonical-at : (k v : ℕ) → PageAt s r begin end k v → Canonical 4 v
+  canonical-at k v c = canonical v (wider k v c)
+
   -- the changed pages of a touching mapping are such
-  its-pages : (k : ℕ) → k < s .mapcount → touching (mappingAt s (mappingPlace s k)) r begin end ≡ true → (i : ℕ) → changed (mappingAt s (mappingPlace s k)) begin end .first ≤ i
-      → i < changed (mappingAt s (mappingPlace s k)) begin end .first + changed (mappingAt s (mappingPlace s k)) begin end .count → Page s r begin end (mappingAt s (mappingPlace s k) .addr + i * 4096)
-  its-pages k l t i a b = (mappingPlace s k, i, in-range s f g base r begin end access run low-end high-end k (mappingPlace s k) i l t (refl, a, b), refl)
+  its-run : (Q : ℕ → Type 0) (t : Lent) (k : ℕ) → k < s .mapcount → touching (mappingAt s (mappingPlace s k)) r begin end ≡ true
+      → ((i : ℕ) → i < mappingAt s (mappingPlace s k) .size / 4096 → Q (granted (withRights (pageAt (t .flags) (mappingPlace s k) i) access)))
+      → Run base used access Q (PageAt s r begin end k) (canonical-at k) (mappingAt s (mappingPlace s k)) (mappingPlace s k) (changed (mappingAt s (mappingPlace s k)) begin end .first) t
+      (changed (mappingAt s (mappingPlace s k)) begin end .count)
+  its-run Q t k l e fit = record {
+    room = few s f g base r begin end access run low-end high-end k l e;
+    all = λ i a b. (i, at i a b, refl);
+    fits = λ i a b. fit i (at i a b .page);
+  }
+    where
+      at : (i : ℕ) → changed (mappingAt s (mappingPlace s k)) begin end .first ≤ i
+          → i < changed (mappingAt s (mappingPlace s k)) begin end .first + changed (mappingAt s (mappingPlace s k)) begin end .count → InRange s r begin end (mappingPlace s k) i
+      at i a b = in-range s f g base r begin end access run low-end high-end k (mappingPlace s k) i l e (refl, a, b)
 
   -- one mapping, then those at the first n places
-  place-alike : (t : Lent) → Good (t .pool) base used → (k : ℕ) → k < s .mapcount → Alike access base (Page s r begin end) (t .pool) (mappingDone t (base / 4096) s r begin end access k .pool)
+  place-alike : (t : Lent) → Good (t .pool) base used → (k : ℕ) → k < s .mapcount
+      → Alike (Rights access) base (PageAt s r begin end k) (t .pool) (mappingDone t (base / 4096) s r begin end access k .pool)
   unfolding mappingDone
   place-alike t G k l =
       ⊎-elim
       (λ (e : touching (mappingAt s (mappingPlace s k)) r begin end ≡ true). rw e
-      (pages-alike base used access (Page s r begin end) canonical (mappingAt s (mappingPlace s k)) (mappingPlace s k) (changed (mappingAt s (mappingPlace s k)) begin end .first) t G (changed (mappingAt s (mappingPlace s k)) begin end .count) (its-pages k l e)))
-      (λ (e : touching (mappingAt s (mappingPlace s k)) r begin end ≡ false). rw e (alike-none access base (Page s r begin end) canonical (t .pool)))
+      (pages-alike base used access (Rights access) (PageAt s r begin end k) (canonical-at k) (mappingAt s (mappingPlace s k)) (mappingPlace s k) (changed (mappingAt s (mappingPlace s k)) begin end .first) t G
+      (changed (mappingAt s (mappingPlace s k)) begin end .count) (its-run (Rights access) t k l e (λ i h. granted-now (pageAt (t .flags) (mappingPlace s k) i) access))))
+      (λ (e : touching (mappingAt s (mappingPlace s k)) r begin end ≡ false). rw e (alike-none (Rights access) base (PageAt s r begin end k) (canonical-at k) (t .pool)))
       (tell (touching (mappingAt s (mappingPlace s k)) r begin end))
 
-  pub places-alike : (t : Lent) → Good (t .pool) base used → (n : ℕ) → n ≤ s .mapcount → Alike access base (Page s r begin end) (t .pool) (mappingsDone t (base / 4096) s r begin end access n .pool)
+  pub places-alike : (t : Lent) → Good (t .pool) base used → (n : ℕ) → n ≤ s .mapcount
+      → Alike (Rights access) base (Page s r begin end) (t .pool) (mappingsDone t (base / 4096) s r begin end access n .pool)
   unfolding mappingsDone
-  places-alike t G zero l = alike-none access base (Page s r begin end) canonical (t .pool)
+  places-alike t G zero l = alike-none (Rights access) base (Page s r begin end) canonical (t .pool)
   places-alike t G (suc n) l =
-      alike-then access base (Page s r begin end) canonical (t .pool) (mappingsDone t (base / 4096) s r begin end access n .pool) _ (places-alike t G n (omega arith))
-      (place-alike (mappingsDone t (base / 4096) s r begin end access n) (mappings-kept base used t s r begin end access n .good G) n (omega arith))
+      alike-then (Rights access) base (Page s r begin end) canonical (t .pool) (mappingsDone t (base / 4096) s r begin end access n .pool) _ (places-alike t G n (omega arith))
+      (alike-wider (Rights access) base (PageAt s r begin end n) (canonical-at n) (Page s r begin end) (wider n) _ _
+      (place-alike (mappingsDone t (base / 4096) s r begin end access n) (mappings-kept base used t s r begin end access n .good G) n (omega arith)))
 
-  -- an address whose leaf is over a page in the range has the rights then
-  place-given : (t : Lent) → Good (t .pool) base used → (k : ℕ) → k < s .mapcount → (j x l w : ℕ) → InRange s r begin end (mappingPlace s k) j → Canonical 4 x
-      → showsIn (t .pool) base (pageAddr s (mappingPlace s k) j) ≡ view l w → x86 .kind l w ≡ leaf → x / span l ≡ pageAddr s (mappingPlace s k) j / span l
-      → Given access (showsIn (mappingDone t (base / 4096) s r begin end access k .pool) base x)
+  -- the leaf of x is over page j of the mapping at place k
+  pub record Under (p : List ℕ) (k j x : ℕ) : Type 0 where
+    pub page : InRange s r begin end (mappingPlace s k) j
+    pub canonical : Canonical 4 x
+    pub l : ℕ
+    pub w : ℕ
+    pub shows : showsIn p base (pageAddr s (mappingPlace s k) j) ≡ view l w
+    pub leaf : x86 .kind l w ≡ leaf
+    pub near : x / span l ≡ pageAddr s (mappingPlace s k) j / span l
+
+  -- it stays so
+  under-then : (Q : ℕ → Type 0) (p q : List ℕ) → ((x : ℕ) → Canonical 4 x → Like Q (showsIn p base x) (showsIn q base x)) → (k j x : ℕ) → Under p k j x → Under q k j x
+  under-then Q p q like k j x U =
+      let was = carried Q _ _ (U .l) (U .w) (like (pageAddr s (mappingPlace s k) j) (page-canonical g r begin end (mappingPlace s k) j (U .page))) (U .shows) (U .leaf) in
+      record { page = U .page; canonical = U .canonical; l = U .l; w = was .0; shows = was .1; leaf = was .2; near = U .near }
+
+  -- once that mapping is done, x has such flags
+  place-given : (Q : ℕ → Type 0) (t : Lent) → Good (t .pool) base used → (k : ℕ) → k < s .mapcount
+      → ((i : ℕ) → i < mappingAt s (mappingPlace s k) .size / 4096 → Q (granted (withRights (pageAt (t .flags) (mappingPlace s k) i) access)))
+      → (j x : ℕ) → Under (t .pool) k j x → Given Q (showsIn (mappingDone t (base / 4096) s r begin end access k .pool) base x)
   unfolding mappingDone
-  place-given t G k h j x l w v cx e q z =
-      let y = range-touches s f g base r begin end access run low-end high-end (mappingPlace s k) j v in
-      let a = among s f g base r begin end access run low-end high-end (mappingPlace s k) j v in
+  place-given Q t G k h fit j x U =
+      let y = range-touches s f g base r begin end access run low-end high-end (mappingPlace s k) j (U .page) in
+      let a = among s f g base r begin end access run low-end high-end (mappingPlace s k) j (U .page) in
       rw y
-      (pages-given base used access (Page s r begin end) canonical (mappingAt s (mappingPlace s k)) (mappingPlace s k) (changed (mappingAt s (mappingPlace s k)) begin end .first) t G (changed (mappingAt s (mappingPlace s k)) begin end .count) (its-pages k h y) j x l w (a .1) (a .2) cx e q z)
+      (pages-given base used access Q (PageAt s r begin end k) (canonical-at k) (mappingAt s (mappingPlace s k)) (mappingPlace s k) (changed (mappingAt s (mappingPlace s k)) begin end .first) t G
+      (changed (mappingAt s (mappingPlace s k)) begin end .count) (its-run Q t k h y fit) j x (U .l) (U .w) (a .1) (a .2) (U .canonical) (U .shows) (U .leaf) (U .near))
 
-  pub places-given : (t : Lent) → Good (t .pool) base used → (n k : ℕ) → n ≤ s .mapcount → k < n → (j x l w : ℕ) → InRange s r begin end (mappingPlace s k) j → Canonical 4 x
-      → showsIn (t .pool) base (pageAddr s (mappingPlace s k) j) ≡ view l w → x86 .kind l w ≡ leaf → x / span l ≡ pageAddr s (mappingPlace s k) j / span l
-      → Given access (showsIn (mappingsDone t (base / 4096) s r begin end access n .pool) base x)
+  -- and has the rights from then on
+  pub places-given : (t : Lent) → Good (t .pool) base used → (n k : ℕ) → n ≤ s .mapcount → k < n → (j x : ℕ) → Under (t .pool) k j x
+      → Given (Rights access) (showsIn (mappingsDone t (base / 4096) s r begin end access n .pool) base x)
   unfolding mappingsDone
-  places-given t G zero k h d j x l w v cx e q z = absurd (omega arith)
-  places-given t G (suc n) k h d j x l w v cx e q z =
+  places-given t G zero k h d j x U = absurd (omega arith)
+  places-given t G (suc n) k h d j x U =
       let u = mappingsDone t (base / 4096) s r begin end access n in
       let G′ = mappings-kept base used t s r begin end access n .good G in
       ⊎-elim
       (λ (y : k ≡ n).
-      let was = carried access _ _ l w (places-alike t G n (omega arith) .like (pageAddr s (mappingPlace s k) j) (page-canonical g r begin end (mappingPlace s k) j v)) e q in
-      place-given u G′ n (omega arith) j x l (was .0) (subst (λ (i : ℕ). InRange s r begin end (mappingPlace s i) j) y v) cx
-      (subst (λ (i : ℕ). showsIn (u .pool) base (pageAddr s (mappingPlace s i) j) ≡ view l (was .0)) y (was .1)) (was .2) (subst (λ (i : ℕ). x / span l ≡ pageAddr s (mappingPlace s i) j / span l) y z))
-      (λ (y : k ≡ n → ⊥). given-stays access _ _ (place-alike u G′ n (omega arith) .like x cx) (places-given t G n k (omega arith) (omega arith) j x l w v cx e q z))
+      place-given (Rights access) u G′ n (omega arith) (λ i h. granted-now (pageAt (u .flags) (mappingPlace s n) i) access) j x
+      (subst (λ (i : ℕ). Under (u .pool) i j x) y (under-then (Rights access) _ _ (places-alike t G n (omega arith) .like) k j x U)))
+      (λ (y : k ≡ n → ⊥). given-stays (Rights access) _ _ (place-alike u G′ n (omega arith) .like x (U .canonical)) (places-given t G n k (omega arith) (omega arith) j x U))
       (same? k n)
+
+  -- the flags themselves are those of the last mapping in the list with a page under that leaf
+  pub places-last : (p : List ℕ) → Good p base used → (n k : ℕ) → n ≤ s .mapcount → k < n → (j x : ℕ) → Under p k j x
+      → ((m i : ℕ) → k < m → m < n → InRange s r begin end (mappingPlace s m) i → Over p base (pageAddr s (mappingPlace s m) i) x → ⊥)
+      → Given (λ h. h ≡ granted (withRights (pageAt f (mappingPlace s k) j) access)) (showsIn (mappingsDone (lent f p) (base / 4096) s r begin end access n .pool) base x)
+  unfolding mappingsDone
+  places-last p G zero k h d j x U later = absurd (omega arith)
+  places-last p G (suc n) k h d j x U later =
+      let u = mappingsDone (lent f p) (base / 4096) s r begin end access n in
+      let G′ = mappings-kept base used (lent f p) s r begin end access n .good G in
+      let A = places-alike (lent f p) G n (omega arith) in
+      ⊎-elim
+      (λ (y : k ≡ n).
+      place-given (λ h. h ≡ granted (withRights (pageAt f (mappingPlace s k) j) access)) u G′ n (omega arith)
+      (subst (λ (q : ℕ). (i : ℕ) → i < mappingAt s (mappingPlace s q) .size / 4096 → granted (withRights (pageAt (u .flags) (mappingPlace s q) i) access) ≡ granted (withRights (pageAt f (mappingPlace s k) j) access)) y
+      (same-flags u k (omega arith) (U .page) (λ i l. places-stay s f g base r begin end access run low-end high-end (lent f p) n (mappingPlace s k) i (omega arith) l (λ q c e w. g .mappings .once q k (omega arith) (omega arith) (sym e)))))
+      j x (subst (λ (i : ℕ). Under (u .pool) i j x) y (under-then (Rights access) _ _ (A .like) k j x U)))
+      (λ (y : k ≡ n → ⊥).
+      given-stays (λ h. h ≡ granted (withRights (pageAt f (mappingPlace s k) j) access)) _ _
+      (same (place-alike u G′ n (omega arith) .far x (U .canonical) (λ v c o.
+      let b = level-back (Rights access) _ _ (o .0) (o .1) (A .like v (canonical-at n v c)) (o .2) in
+      later n (c .0) (omega arith) (omega arith) (c .1) (subst (λ (z : ℕ). Over p base z x) (sym (c .2)) (o .0, b .0, b .1, o .3)))))
+      (places-last p G n k (omega arith) (omega arith) j x U (λ m i a b. later m i a (omega arith))))
+      (same? k n)
+    where
+      -- all pages of a mapping that is yet to be done get the same but for their rights
+      same-flags : (u : Lent) (k : ℕ) → k < s .mapcount → InRange s r begin end (mappingPlace s k) j
+          → ((i : ℕ) → i < 512 → pageAt (u .flags) (mappingPlace s k) i ≡ pageAt f (mappingPlace s k) i)
+          → (i : ℕ) → i < mappingAt s (mappingPlace s k) .size / 4096 → granted (withRights (pageAt (u .flags) (mappingPlace s k) i) access) ≡ granted (withRights (pageAt f (mappingPlace s k) j) access)
+      same-flags u k l w stay i h =
+          let q = mapping-place g k l in
+          let o = g .pages (mappingPlace s k) (q .0) in
+          let z = g .paged (mappingPlace s k) (q .0) (q .1) .few in
+          ap (λ (y : ℕ). granted (withRights y access)) (stay i (omega arith))
+          ∙ ap granted (alike-now (pageAt f (mappingPlace s k) i) (pageAt f (mappingPlace s k) j) access (o .known i h) (o .known j (w .page)) (o .alike i h ∙ sym (o .alike j (w .page))))

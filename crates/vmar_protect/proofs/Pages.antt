@@ -121,7 +121,7 @@ module _ (s : Space) (f : List ℕ) (g : Passes s f) (base r begin end access : 
       (x .2)
 
   -- the changed pages lie within the slot
-  few : (k : ℕ) → k < s .mapcount → touching (mappingAt s (mappingPlace s k)) r begin end ≡ true
+  pub few : (k : ℕ) → k < s .mapcount → touching (mappingAt s (mappingPlace s k)) r begin end ≡ true
       → changed (mappingAt s (mappingPlace s k)) begin end .first + changed (mappingAt s (mappingPlace s k)) begin end .count ≤ 512
   few k l t = let z = paged-at k l in let z1 = z .few in let c = changed-in (mappingAt s (mappingPlace s k)) r begin end z run t in omega arith
 

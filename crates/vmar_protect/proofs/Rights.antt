@@ -70,6 +70,10 @@ righted old f k =
       huge = b .4;
     }
 
+-- pages that differ in their rights only have the same flags then
+pub alike-now : (a b f : ℕ) → knownPage a ≡ true → knownPage b ≡ true → others a ≡ others b → withRights a f ≡ withRights b f
+alike-now a b f k l e = omega (arith, new-sum a f k, new-sum b f l)
+
 -- what a page has beside its rights stays
 pub others-stay : (old f : ℕ) → knownPage old ≡ true → others (withRights old f) ≡ others old
 others-stay old f k = let b = righted old f k in omega (arith, b .user, b .huge)

@@ -13,7 +13,6 @@ use Rattle.paging.proofs.Cases.{same?}
 use Rattle.paging.proofs.Formats.{IsLeaf, Is, is}
 use Rattle.paging.proofs.Walks.{leaf-bar}
 use Rattle.paging.proofs.Changes.{end, inside}
-use Rattle.common.specs.Flags.{rights}
 use Rattle.common.specs.Page.{isHuge}
 use Rattle.x86_64.specs.Entry.{granted, leafBy, x86}
 use Rattle.x86_64.proofs.Format.{lawful}
@@ -36,45 +35,45 @@ use Rattle.table_laws.proofs.Effects.{shown-at}
 use Rattle.table_laws.proofs.Writes.{rewrites}
 use Rattle.vmar_protect.specs.Laws.{Over}
 
--- a leaf whose rights are those that an entry gives for `access`
-pub record Given (access : ℕ) (y : View) : Type 0 where
+-- a leaf whose flags are such as Q says
+pub record Given (Q : ℕ → Type 0) (y : View) : Type 0 where
   pub l : ℕ
   pub w : ℕ
   pub is : y ≡ view l w
   pub kind : x86 .kind l w ≡ leaf
-  pub rights : rights (x86 .flags w) ≡ rights (granted access)
+  pub flags : Q (x86 .flags w)
 
--- what an address showed and what it shows: the same, or a leaf of the same frame with the rights
-pub data Like (access : ℕ) (y z : View) : Type 0 where
-  same : z ≡ y → Like access y z
-  leaves : (l w w′ : ℕ) → y ≡ view l w → z ≡ view l w′ → x86 .kind l w ≡ leaf → x86 .kind l w′ ≡ leaf → x86 .addr w′ ≡ x86 .addr w → rights (x86 .flags w′) ≡ rights (granted access) → Like access y z
+-- what an address showed and what it shows: the same, or a leaf of the same frame with such flags
+pub data Like (Q : ℕ → Type 0) (y z : View) : Type 0 where
+  same : z ≡ y → Like Q y z
+  leaves : (l w w′ : ℕ) → y ≡ view l w → z ≡ view l w′ → x86 .kind l w ≡ leaf → x86 .kind l w′ ≡ leaf → x86 .addr w′ ≡ x86 .addr w → Q (x86 .flags w′) → Like Q y z
 
-pub like-then : (access : ℕ) (x y z : View) → Like access x y → Like access y z → Like access x z
-like-then access x y z (same e) (same f) = same (f ∙ e)
-like-then access x y z (same e) (leaves l w w′ a b c d i j) = leaves l w w′ (sym e ∙ a) b c d i j
-like-then access x y z (leaves l w w′ a b c d i j) (same f) = leaves l w w′ a (f ∙ b) c d i j
-like-then access x y z (leaves l w w′ a b c d i j) (leaves m v v′ k n o q r t) =
+pub like-then : (Q : ℕ → Type 0) (x y z : View) → Like Q x y → Like Q y z → Like Q x z
+like-then Q x y z (same e) (same f) = same (f ∙ e)
+like-then Q x y z (same e) (leaves l w w′ a b c d i j) = leaves l w w′ (sym e ∙ a) b c d i j
+like-then Q x y z (leaves l w w′ a b c d i j) (same f) = leaves l w w′ a (f ∙ b) c d i j
+like-then Q x y z (leaves l w w′ a b c d i j) (leaves m v v′ k n o q r t) =
     let e : view l w′ ≡ view m v = sym b ∙ k in
     let e1 : m ≡ l = cc in
     let e2 : v ≡ w′ = cc in
     leaves l w v′ a (n ∙ ap (λ (u : ℕ). view u v′) e1) c (subst (λ (u : ℕ). x86 .kind u v′ ≡ leaf) e1 q) (r ∙ ap (x86 .addr) e2 ∙ i) t
 
-pub given-stays : (access : ℕ) (y z : View) → Like access y z → Given access y → Given access z
-given-stays access y z (same e) g = record { l = g .l; w = g .w; is = e ∙ g .is; kind = g .kind; rights = g .rights }
-given-stays access y z (leaves l w w′ a b c d i j) g = record { l = l; w = w′; is = b; kind = d; rights = j }
+pub given-stays : (Q : ℕ → Type 0) (y z : View) → Like Q y z → Given Q y → Given Q z
+given-stays Q y z (same e) g = record { l = g .l; w = g .w; is = e ∙ g .is; kind = g .kind; flags = g .flags }
+given-stays Q y z (leaves l w w′ a b c d i j) g = record { l = l; w = w′; is = b; kind = d; flags = j }
 
 -- a leaf is still one, of the same level
-pub carried : (access : ℕ) (y z : View) (l w : ℕ) → Like access y z → y ≡ view l w → x86 .kind l w ≡ leaf → (w′ : ℕ) × (z ≡ view l w′) × (x86 .kind l w′ ≡ leaf)
-carried access y z l w (same e) q k = (w, e ∙ q, k)
-carried access y z l w (leaves m v v′ a b c d i j) q k =
+pub carried : (Q : ℕ → Type 0) (y z : View) (l w : ℕ) → Like Q y z → y ≡ view l w → x86 .kind l w ≡ leaf → (w′ : ℕ) × (z ≡ view l w′) × (x86 .kind l w′ ≡ leaf)
+carried Q y z l w (same e) q k = (w, e ∙ q, k)
+carried Q y z l w (leaves m v v′ a b c d i j) q k =
     let e : view m v ≡ view l w = sym a ∙ q in
     let e1 : m ≡ l = cc in
     (v′, b ∙ ap (λ (u : ℕ). view u v′) e1, subst (λ (u : ℕ). x86 .kind u v′ ≡ leaf) e1 d)
 
 -- the entry that ends a walk is of the same level
-pub level-back : (access : ℕ) (y z : View) (l w : ℕ) → Like access y z → z ≡ view l w → (w′ : ℕ) × (y ≡ view l w′)
-level-back access y z l w (same e) q = (w, sym e ∙ q)
-level-back access y z l w (leaves m v v′ a b c d i j) q =
+pub level-back : (Q : ℕ → Type 0) (y z : View) (l w : ℕ) → Like Q y z → z ≡ view l w → (w′ : ℕ) × (y ≡ view l w′)
+level-back Q y z l w (same e) q = (w, sym e ∙ q)
+level-back Q y z l w (leaves m v v′ a b c d i j) q =
     let e : view m v′ ≡ view l w = sym b ∙ q in
     let e1 : m ≡ l = cc in
     (v, a ∙ ap (λ (u : ℕ). view u v) e1)
@@ -87,17 +86,17 @@ near-shows p base used G v l w x e n =
     let q1 : E .l ≡ l = cc in
     inside x86 (memOf p (base / 4096)) (memOf p (base / 4096)) (Taken (base / 4096) used) (base / 4096) (G .formed) v E (λ m i t h ne. refl) x (rw q1 n) (E .last) ∙ q
 
--- the leaf over v has the rights now, and no other address sees a change
-pub record Step (access base v : ℕ) (p q : List ℕ) : Type 0 where
-  pub like : (x : ℕ) → Canonical 4 x → Like access (showsIn p base x) (showsIn q base x)
+-- the leaf over v has such flags now, and no other address sees a change
+pub record Step (Q : ℕ → Type 0) (base v : ℕ) (p q : List ℕ) : Type 0 where
+  pub like : (x : ℕ) → Canonical 4 x → Like Q (showsIn p base x) (showsIn q base x)
   pub far : (x : ℕ) → Canonical 4 x → (Over p base v x → ⊥) → showsIn q base x ≡ showsIn p base x
-  pub near : (x l w : ℕ) → showsIn p base v ≡ view l w → x86 .kind l w ≡ leaf → x / span l ≡ v / span l → Given access (showsIn q base x)
+  pub near : (x l w : ℕ) → showsIn p base v ≡ view l w → x86 .kind l w ≡ leaf → x / span l ≡ v / span l → Given Q (showsIn q base x)
 
--- one `update` to new flags whose rights are those of `access`
-module _ (p : List ℕ) (base used : ℕ) (G : Good p base used) (v g access : ℕ) (cv : Canonical 4 v) (fit : rights (granted g) ≡ rights (granted access)) where
+-- one `update` to flags of which an entry gives such
+module _ (p : List ℕ) (base used : ℕ) (G : Good p base used) (v g : ℕ) (Q : ℕ → Type 0) (cv : Canonical 4 v) (fit : Q (granted g)) where
   -- over a leaf, by what was written
-  step-of : (q : List ℕ) (l w n : ℕ) → showsIn p base v ≡ view l w → x86 .kind l w ≡ leaf → x86 .kind l n ≡ leaf → x86 .addr n ≡ x86 .addr w → rights (x86 .flags n) ≡ rights (granted access)
-      → Rewrites p q base used v l n → Step access base v p q
+  step-of : (q : List ℕ) (l w n : ℕ) → showsIn p base v ≡ view l w → x86 .kind l w ≡ leaf → x86 .kind l n ≡ leaf → x86 .addr n ≡ x86 .addr w → Q (x86 .flags n)
+      → Rewrites p q base used v l n → Step Q base v p q
   step-of q l w n shown k k′ a r R = record {
     like = λ x cx. ⊎-elim
         (λ (e : x / span l ≡ v / span l). leaves l w n (near-shows p base used G v l w x shown e) (R .inside x e) k k′ a r)
@@ -107,10 +106,10 @@ module _ (p : List ℕ) (base used : ℕ) (G : Good p base used) (v g access : �
     near = λ x m u e i b.
         let z : view m u ≡ view l w = sym e ∙ shown in
         let z1 : m ≡ l = cc in
-        record { l = l; w = n; is = R .inside x (subst (λ (j : ℕ). x / span j ≡ v / span j) z1 b); kind = k′; rights = r };
+        record { l = l; w = n; is = R .inside x (subst (λ (j : ℕ). x / span j ≡ v / span j) z1 b); kind = k′; flags = r };
   }
 
-  leaf-step : (e : LeafEntry) → found p (base / 4096) v ≡ Leaf e → Step access base v p (updated p (base / 4096) v addr.Keep (flags.To (record { 0 = g })) .pool)
+  leaf-step : (e : LeafEntry) → found p (base / 4096) v ≡ Leaf e → Step Q base v p (updated p (base / 4096) v addr.Keep (flags.To (record { 0 = g })) .pool)
   unfolding x86
   leaf-step e q =
       let o = over p (base / 4096) used (G .formed) v e q in
@@ -124,15 +123,15 @@ module _ (p : List ℕ) (base used : ℕ) (G : Good p base used) (v g access : �
       let pool : updated p (base / 4096) v addr.Keep (flags.To (record { 0 = g })) .pool ≡ putWord p (e .frame) (e .place) n =
       ap (λ (u : Updating). u .pool) (rewritten p (base / 4096) v e q addr.Keep (flags.To (record { 0 = g })) refl)
       ∙ ap (λ (h : Bool). putWord p (e .frame) (e .place) (leafBy h (x86 .addr w) g 0)) huge in
-      subst (λ (z : List ℕ). Step access base v p z) (sym pool)
-      (step-of (putWord p (e .frame) (e .place) n) (o .l) w n (shown-at p base used v G (o .l) (e .frame) (e .place) (o .placed)) (o .kind) (wrote .kind) (wrote .addr) (ap rights (wrote .flags) ∙ fit) R)
+      subst (λ (z : List ℕ). Step Q base v p z) (sym pool)
+      (step-of (putWord p (e .frame) (e .place) n) (o .l) w n (shown-at p base used v G (o .l) (e .frame) (e .place) (o .placed)) (o .kind) (wrote .kind) (wrote .addr) (subst Q (sym (wrote .flags)) fit) R)
 
-  open-step : (o : OpenEntry) → found p (base / 4096) v ≡ Open o → Step access base v p (updated p (base / 4096) v addr.Keep (flags.To (record { 0 = g })) .pool)
+  open-step : (o : OpenEntry) → found p (base / 4096) v ≡ Open o → Step Q base v p (updated p (base / 4096) v addr.Keep (flags.To (record { 0 = g })) .pool)
   open-step o q =
       let pool : updated p (base / 4096) v addr.Keep (flags.To (record { 0 = g })) .pool ≡ p = rw q in
       let u = unused p (base / 4096) used (G .formed) v o q in
       let shown : showsIn p base v ≡ view (o .level) 0 = shown-at p base used v G (o .level) (o .frame) (o .place) (u .placed) ∙ ap (view (o .level)) (u .blank) in
-      subst (λ (z : List ℕ). Step access base v p z) (sym pool) (record {
+      subst (λ (z : List ℕ). Step Q base v p z) (sym pool) (record {
         like = λ x cx. same refl;
         far = λ x cx off. refl;
         near = λ x l w e k b.
@@ -144,27 +143,31 @@ module _ (p : List ℕ) (base used : ℕ) (G : Good p base used) (v g access : �
             absurd (omega arith);
       })
 
-  pub step : Step access base v p (updated p (base / 4096) v addr.Keep (flags.To (record { 0 = g })) .pool)
+  pub step : Step Q base v p (updated p (base / 4096) v addr.Keep (flags.To (record { 0 = g })) .pool)
   step = go (found p (base / 4096) v) refl
     where
-      go : (r : Walk) → found p (base / 4096) v ≡ r → Step access base v p (updated p (base / 4096) v addr.Keep (flags.To (record { 0 = g })) .pool)
+      go : (r : Walk) → found p (base / 4096) v ≡ r → Step Q base v p (updated p (base / 4096) v addr.Keep (flags.To (record { 0 = g })) .pool)
       go (Leaf e) q = leaf-step e q
       go (Open o) q = open-step o q
 
--- what some changes at pages of C do: each address shows the same, or a leaf of the same frame with the rights, and only one whose entry is over such a page changes
-pub record Alike (access base : ℕ) (C : ℕ → Type 0) (p q : List ℕ) : Type 0 where
-  pub like : (x : ℕ) → Canonical 4 x → Like access (showsIn p base x) (showsIn q base x)
+-- what some changes at pages of C do: each address shows the same, or a leaf of the same frame with such flags, and only one whose entry is over such a page changes
+pub record Alike (Q : ℕ → Type 0) (base : ℕ) (C : ℕ → Type 0) (p q : List ℕ) : Type 0 where
+  pub like : (x : ℕ) → Canonical 4 x → Like Q (showsIn p base x) (showsIn q base x)
   pub far : (x : ℕ) → Canonical 4 x → ((v : ℕ) → C v → Over p base v x → ⊥) → showsIn q base x ≡ showsIn p base x
 
-module _ (access base : ℕ) (C : ℕ → Type 0) (canonical : (v : ℕ) → C v → Canonical 4 v) where
-  pub alike-none : (p : List ℕ) → Alike access base C p p
+module _ (Q : ℕ → Type 0) (base : ℕ) (C : ℕ → Type 0) (canonical : (v : ℕ) → C v → Canonical 4 v) where
+  pub alike-none : (p : List ℕ) → Alike Q base C p p
   alike-none p = record { like = λ x cx. same refl; far = λ x cx off. refl }
 
-  pub alike-step : (v : ℕ) (p q : List ℕ) → C v → Step access base v p q → Alike access base C p q
+  pub alike-step : (v : ℕ) (p q : List ℕ) → C v → Step Q base v p q → Alike Q base C p q
   alike-step v p q c s = record { like = s .like; far = λ x cx off. s .far x cx (off v c) }
 
-  pub alike-then : (p q r : List ℕ) → Alike access base C p q → Alike access base C q r → Alike access base C p r
+  pub alike-then : (p q r : List ℕ) → Alike Q base C p q → Alike Q base C q r → Alike Q base C p r
   alike-then p q r a b = record {
-    like = λ x cx. like-then access _ _ _ (a .like x cx) (b .like x cx);
-    far = λ x cx off. b .far x cx (λ v c u. let k = level-back access _ _ (u .0) (u .1) (a .like v (canonical v c)) (u .2) in off v c (u .0, k .0, k .1, u .3)) ∙ a .far x cx off;
+    like = λ x cx. like-then Q _ _ _ (a .like x cx) (b .like x cx);
+    far = λ x cx off. b .far x cx (λ v c u. let k = level-back Q _ _ (u .0) (u .1) (a .like v (canonical v c)) (u .2) in off v c (u .0, k .0, k .1, u .3)) ∙ a .far x cx off;
   }
+
+  -- of more pages
+  pub alike-wider : (D : ℕ → Type 0) → ((v : ℕ) → C v → D v) → (p q : List ℕ) → Alike Q base C p q → Alike Q base D p q
+  alike-wider D more p q a = record { like = a .like; far = λ x cx off. a .far x cx (λ v c. off v (more v c)) }

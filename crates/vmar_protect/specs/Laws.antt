@@ -3,18 +3,17 @@
 -- rights may change outside the range too, and "On an unused entry the port answers 6", so that no address gains a frame.
 use Prim.Native.Nat.{ℕ, _+_, _*_, _/_, _≤_, _<_}
 use mathlib.Core.Path.{_≡_}
-use mathlib.Core.Bool.{true, false}
+use mathlib.Core.Bool.{true}
 use mathlib.Core.List.{List}
 use Rattle.paging.specs.Level.{span, Canonical}
 use Rattle.paging.specs.Table.{view, to}
-use Rattle.common.specs.Flags.{READ, WRITE, EXECUTE, USER, HUGE_PAGE, has, knownPage, grants, rights}
+use Rattle.common.specs.Flags.{READ, WRITE, EXECUTE, USER, HUGE_PAGE, has, knownPage, rights}
 use Rattle.common.specs.declared.defs.MMUFlags.{MMUFlags}
 use Rattle.common.specs.declared.vm.PageSize.{PageSize}
 use Rattle.x86_64.specs.Entry.{granted}
 use Rattle.form.specs.Form.{Good}
 use Rattle.refusal.specs.declared.Refusal.{Refusal}
-use Rattle.space.specs.Range.{contains}
-use Rattle.space.specs.Space.{regionAt, mappingAt, isRegion, isMapping}
+use Rattle.space.specs.Space.{mappingAt, isMapping, mappingPlace}
 use Rattle.space.specs.Passes.{pageAt, Passes}
 use Rattle.space.specs.declared.Space.{Space}
 use Rattle.table.specs.Table.{queried}
@@ -22,7 +21,9 @@ use Rattle.table.specs.declared.QueryResult.{QueryResult}
 use Rattle.table.specs.declared.QueryResult.the-variants as query
 use Rattle.table_laws.specs.Effects.{showsIn, translatesIn}
 use Rattle.vmar_offset.specs.Offset.{slotOf}
-use Rattle.vmar_protect.specs.Protect.{touches, touching, withRights, lent, ProtectDone, protected}
+use Rattle.vmar_protect.specs.Protect.{withRights, lent, ProtectDone, protected}
+use Rattle.vmar_protect.specs.Answers.{Asked, Allowed, ProtectAnswers}
+use Rattle.vmar_protect.specs.declared.ProtectResult.{ProtectResult}
 use Rattle.vmar_protect.specs.declared.ProtectResult.the-variants as result
 
 -- known page flags with the rights of `access`: exactly those, and their own USER and HUGE_PAGE
@@ -47,23 +48,21 @@ pub record InRange (s : Space) (r begin end i j : ℕ) : Type 0 where
   pub from : begin ≤ pageAddr s i j
   pub to : pageAddr s i j < end
 
--- a mapping of region r holds x and grants the rights
-pub record Covered (s : Space) (r access x : ℕ) : Type 0 where
-  pub mapping : ℕ
-  pub slot : mapping < 64
-  pub live : isMapping s mapping ≡ true
-  pub mine : mappingAt s mapping .region ≡ r
-  pub holds : contains (mappingAt s mapping .addr) (mappingAt s mapping .size) x ≡ true
-  pub granted : grants (mappingAt s mapping .permissions) (rights access) ≡ true
-
--- two answers of `query` tell of one frame, or both of none; rights may differ
+-- two answers of `query` tell of one frame and one page size, or both of none; rights may differ
 pub data SameFrame : QueryResult → QueryResult → Type 0 where
   none : (why : Refusal) → SameFrame (query.Refused why) (query.Refused why)
-  frame : (a : ℕ) (f g : MMUFlags) (y z : PageSize) → SameFrame (query.Page a f y) (query.Page a g z)
+  frame : (a : ℕ) (f g : MMUFlags) (z : PageSize) → SameFrame (query.Page a f z) (query.Page a g z)
 
 -- the entry that ends the walk of v is over x too
 abbrev pub Over : List ℕ → ℕ → ℕ → ℕ → Type 0
 Over p base v x = (l : ℕ) × (w : ℕ) × (showsIn p base v ≡ view l w) × (x / span l ≡ v / span l)
+
+-- page j of the mapping at place k of the list lies in [begin, end), under the entry that is over x, and no mapping after it in the list has such a page
+pub record LastOver (s : Space) (p : List ℕ) (base r begin end x k j : ℕ) : Type 0 where
+  pub place : k < s .mapcount
+  pub page : InRange s r begin end (mappingPlace s k) j
+  pub over : Over p base (pageAddr s (mappingPlace s k) j) x
+  pub last : (m i : ℕ) → k < m → m < s .mapcount → InRange s r begin end (mappingPlace s m) i → Over p base (pageAddr s (mappingPlace s m) i) x → ⊥
 
 -- the call on the two buffers
 abbrev pub call : Space → List ℕ → List ℕ → ℕ → ℕ → ℕ → ℕ → ℕ → ProtectDone
@@ -76,17 +75,12 @@ pub record Protects (s : Space) (f p : List ℕ) (base used id begin len access 
   -- the space still passes its check, and the pool is still good
   pub passes : Passes s (call s f p base id begin len access .flags)
   pub good : Good (call s f p base id begin len access .pool) base used
-  -- an accepted call is one on a live region
-  pub live : call s f p base id begin len access .result ≡ result.Protected → (slotOf s id < 32) × (isRegion s (slotOf s id) ≡ true)
-  -- no child of it touches the range: "a child that merely touches gives 1"
-  pub childless : call s f p base id begin len access .result ≡ result.Protected
-      → (i : ℕ) → i < 32 → isRegion s i ≡ true → touches (regionAt s i .parent) (slotOf s id) (regionAt s i .addr) (regionAt s i .size) begin (begin + len) ≡ false
-  -- it finds every address of the range in a mapping of the region that grants the rights
-  pub covered : call s f p base id begin len access .result ≡ result.Protected
-      → (x : ℕ) → begin ≤ x → x < begin + len → Covered s (slotOf s id) access x
-  -- "a touching mapping must grant the rights too"
-  pub granting : call s f p base id begin len access .result ≡ result.Protected
-      → (i : ℕ) → i < 64 → isMapping s i ≡ true → touching (mappingAt s i) (slotOf s id) begin (begin + len) ≡ true → grants (mappingAt s i .permissions) (rights access) ≡ true
+  -- what the call answers, and no second answer fits
+  pub answers : ProtectAnswers s id begin len access (call s f p base id begin len access .result)
+  pub only : (x : ProtectResult) → ProtectAnswers s id begin len access x → x ≡ call s f p base id begin len access .result
+  -- so that an accepted one is on a live region, no child touches its range, and mappings that grant the rights hold it
+  pub asked : call s f p base id begin len access .result ≡ result.Protected → Asked s id begin len access
+  pub allowed : call s f p base id begin len access .result ≡ result.Protected → Allowed s (slotOf s id) begin (begin + len) access
   -- each page in the range has the rights
   pub changes : call s f p base id begin len access .result ≡ result.Protected
       → (i j : ℕ) → InRange s (slotOf s id) begin (begin + len) i j → pageAt (call s f p base id begin len access .flags) i j ≡ withRights (pageAt f i j) access
@@ -101,6 +95,9 @@ pub record Protects (s : Space) (f p : List ℕ) (base used id begin len access 
   pub given : call s f p base id begin len access .result ≡ result.Protected → (i j : ℕ) → InRange s (slotOf s id) begin (begin + len) i j
       → (x a g : ℕ) → Canonical 4 x → Over p base (pageAddr s i j) x → translatesIn p base x ≡ to a g
       → (h : ℕ) × (translatesIn (call s f p base id begin len access .pool) base x ≡ to a h) × (rights h ≡ rights (granted access))
+  -- it has the flags of the last such page, USER with them: all pages of one mapping have the same
+  pub last-given : call s f p base id begin len access .result ≡ result.Protected → (x a g k j : ℕ) → Canonical 4 x → LastOver s p base (slotOf s id) begin (begin + len) x k j
+      → translatesIn p base x ≡ to a g → translatesIn (call s f p base id begin len access .pool) base x ≡ to a (granted (withRights (pageAt f (mappingPlace s k) j) access))
 
 -- What is proved of every space that passes its check, every good pool and every call.
 pub record ProtectLaws : Type 0 where

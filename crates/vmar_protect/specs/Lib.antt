@@ -1,2 +1,3 @@
 pub mod Protect
+pub mod Answers
 pub mod Laws
