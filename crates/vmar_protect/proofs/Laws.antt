@@ -9,7 +9,6 @@ use Rattle.paging.specs.Level.{span, Canonical}
 use Rattle.paging.specs.Format.{Kind, nothing, leaf, table, byKind}
 use Rattle.paging.specs.Table.{view, Translation, to, nowhere, translated, translates}
 use Rattle.scan.proofs.Scans.{tell}
-use Rattle.common.specs.Flags.{rights}
 use Rattle.common.specs.declared.defs.MMUFlags.{MMUFlags}
 use Rattle.common.specs.declared.vm.PageSize.{PageSize}
 use Rattle.x86_64.specs.Entry.{granted, x86}
@@ -41,7 +40,7 @@ use Rattle.vmar_protect.proofs.Buffers.{mappings-kept}
 use Rattle.vmar_protect.proofs.Pages.{places-stay, places-change, in-range?}
 use Rattle.vmar_protect.proofs.Answers as answer
 use Rattle.vmar_protect.proofs.Tables.{Like, same, leaves, level-back, Given, Alike, near-shows}
-use Rattle.vmar_protect.proofs.Leaves.{Page, Rights, places-alike, Under, places-given, places-last}
+use Rattle.vmar_protect.proofs.Leaves.{Page, Any, places-alike, Under, places-last, last-over}
 
 -- what an address translates to, by the leaf that it shows
 leaf-to : (p : List ℕ) (base x l w : ℕ) → showsIn p base x ≡ view l w → x86 .kind l w ≡ leaf → translatesIn p base x ≡ to (x86 .addr w + x % span l) (x86 .flags w)
@@ -177,7 +176,6 @@ module _ (s : Space) (f p : List ℕ) (base used id begin len access : ℕ) (g :
         frames = λ x cx. subst (λ (q : List ℕ). SameFrame (queried p (base / 4096) x) (queried q (base / 4096) x)) (sym e2) (unchanged p base used G x);
         elsewhere = λ x cx off. ap (λ (q : List ℕ). translatesIn q base x) e2;
         given = λ h. absurd (refused-not (sym e0 ∙ h));
-        last-given = λ h. absurd (refused-not (sym e0 ∙ h));
       }
 
   -- an accepted one
@@ -247,11 +245,11 @@ module _ (s : Space) (f p : List ℕ) (base used id begin len access : ℕ) (g :
     good : Good (now .pool) base used
     good = mappings-kept base used (lent f p) s (slotOf s id) begin (begin + len) access (s .mapcount) .good G
 
-    in-table : Alike (Rights access) base (Page s (slotOf s id) begin (begin + len)) p (now .pool)
+    in-table : Alike Any base (Page s (slotOf s id) begin (begin + len)) p (now .pool)
     in-table = places-alike s f g base used (slotOf s id) begin (begin + len) access run (A .0) high-end (lent f p) G (s .mapcount) (omega arith)
 
     frames : (x : ℕ) → Canonical 4 x → SameFrame (queried p (base / 4096) x) (queried (now .pool) (base / 4096) x)
-    frames x cx = one-frame p (now .pool) base x (told p base used G x) (told (now .pool) base used good x) (framed (Rights access) p (now .pool) base x (in-table .like x cx)) (one-level (Rights access) p (now .pool) base x (in-table .like x cx))
+    frames x cx = one-frame p (now .pool) base x (told p base used G x) (told (now .pool) base used good x) (framed Any p (now .pool) base x (in-table .like x cx)) (one-level Any p (now .pool) base x (in-table .like x cx))
 
     elsewhere : (x : ℕ) → Canonical 4 x → ((i j : ℕ) → InRange s (slotOf s id) begin (begin + len) i j → Over p base (pageAddr s i j) x → ⊥) → translatesIn (now .pool) base x ≡ translatesIn p base x
     elsewhere x cx off = same-to p (now .pool) base x (in-table .far x cx (λ v c u. off (c .0) (c .1) (c .2) (subst (λ (y : ℕ). Over p base y x) (sym (c .3)) u)))
@@ -269,20 +267,24 @@ module _ (s : Space) (f p : List ℕ) (base used id begin len access : ℕ) (g :
       near = o .3;
     }
 
-    given : (i j : ℕ) → InRange s (slotOf s id) begin (begin + len) i j → (x a h : ℕ) → Canonical 4 x → Over p base (pageAddr s i j) x → translatesIn p base x ≡ to a h
-        → (n : ℕ) × (translatesIn (now .pool) base x ≡ to a n) × (rights n ≡ rights (granted access))
-    given i j w x a h cx o t =
-        let q = g .mappings .whole i (w .slot) (w .live) in
-        given-to (Rights access) (Rights access) p (now .pool) base x a h (in-table .like x cx)
-        (places-given s f g base used (slotOf s id) begin (begin + len) access run (A .0) high-end (lent f p) G (s .mapcount) (q .0) (omega arith) (q .1) j x
-        (under (q .0) j x a h (subst (λ (y : ℕ). InRange s (slotOf s id) begin (begin + len) y j) (sym (q .2)) w) cx (subst (λ (y : ℕ). Over p base (pageAddr s y j) x) (sym (q .2)) o) t)) t
-
     last-given : (x a h k j : ℕ) → Canonical 4 x → LastOver s p base (slotOf s id) begin (begin + len) x k j → translatesIn p base x ≡ to a h
         → translatesIn (now .pool) base x ≡ to a (granted (withRights (pageAt f (mappingPlace s k) j) access))
     last-given x a h k j cx L t =
-        let w = given-to _ (Rights access) p (now .pool) base x a h (in-table .like x cx)
+        let w = given-to _ Any p (now .pool) base x a h (in-table .like x cx)
         (places-last s f g base used (slotOf s id) begin (begin + len) access run (A .0) high-end p G (s .mapcount) k (omega arith) (L .place) j x (under k j x a h (L .page) cx (L .over) t) (L .last)) t in
         w .1 ∙ ap (to a) (w .2)
+
+    given : (i j : ℕ) → InRange s (slotOf s id) begin (begin + len) i j → (x a h : ℕ) → Canonical 4 x → Over p base (pageAddr s i j) x → translatesIn p base x ≡ to a h
+        → (k : ℕ) × (m : ℕ) × LastOver s p base (slotOf s id) begin (begin + len) x k m
+        × (translatesIn (now .pool) base x ≡ to a (granted (withRights (pageAt f (mappingPlace s k) m) access)))
+    given i j w x a h cx o t =
+        let q = g .mappings .whole i (w .slot) (w .live) in
+        let L = last-over s f g p base (slotOf s id) begin (begin + len) x (q .0) j (
+          q .1,
+          subst (λ (y : ℕ). InRange s (slotOf s id) begin (begin + len) y j) (sym (q .2)) w,
+          subst (λ (y : ℕ). Over p base (pageAddr s y j) x) (sym (q .2)) o,
+        ) in
+        (L .0, L .1, L .2, last-given x a h (L .0) (L .1) cx (L .2) t)
 
     by-acceptance : Protects s f p base used id begin len access
     by-acceptance =
@@ -300,8 +302,7 @@ module _ (s : Space) (f p : List ℕ) (base used id begin len access : ℕ) (g :
           keeps = λ i j l h off. ap (λ (x : List ℕ). pageAt x i j) e1 ∙ keeps i j l h off;
           frames = λ x cx. subst (λ (q : List ℕ). SameFrame (queried p (base / 4096) x) (queried q (base / 4096) x)) (sym e2) (frames x cx);
           elsewhere = λ x cx off. ap (λ (q : List ℕ). translatesIn q base x) e2 ∙ elsewhere x cx off;
-          given = λ r i j w x a h cx o t. let q = given i j w x a h cx o t in (q .0, ap (λ (y : List ℕ). translatesIn y base x) e2 ∙ q .1, q .2);
-          last-given = λ r x a h k j cx L t. ap (λ (y : List ℕ). translatesIn y base x) e2 ∙ last-given x a h k j cx L t;
+          given = λ r i j w x a h cx o t. let q = given i j w x a h cx o t in (q .0, q .1, q .2, ap (λ (y : List ℕ). translatesIn y base x) e2 ∙ q .3);
         }
 
 -- the laws of a call

@@ -7,10 +7,9 @@ use mathlib.Core.Logic.{_⊎_, inl, inr, ⊎-elim}
 use native.Mathlib.Omega.{arith}
 use Rattle.paging.specs.Level.{span, Canonical}
 use Rattle.paging.specs.Format.{leaf}
-use Rattle.paging.specs.Table.{view}
-use Rattle.paging.proofs.Cases.{same?}
+use Rattle.paging.specs.Table.{View, view}
+use Rattle.paging.proofs.Cases.{same?, below?}
 use Rattle.scan.proofs.Scans.{tell}
-use Rattle.common.specs.Flags.{rights}
 use Rattle.x86_64.specs.Entry.{granted, x86}
 use Rattle.form.specs.Form.{Good}
 use Rattle.table_laws.specs.Effects.{showsIn}
@@ -20,10 +19,10 @@ use Rattle.space.specs.declared.Mapping.{Mapping}
 use Rattle.space.specs.declared.Space.{Space}
 use Rattle.space.proofs.Facts.{region-place, mapping-place, child-in, mapping-in}
 use Rattle.vmar_protect.specs.Protect.{withRights, Lent, lent, pageDone, pagesDone, touching, changed, mappingDone, mappingsDone}
-use Rattle.vmar_protect.specs.Laws.{pageAddr, InRange, Over}
-use Rattle.vmar_protect.proofs.Rights.{alike-now, granted-now}
+use Rattle.vmar_protect.specs.Laws.{pageAddr, InRange, Over, LastOver}
+use Rattle.vmar_protect.proofs.Rights.{alike-now}
 use Rattle.vmar_protect.proofs.Buffers.{pages-kept, mappings-kept}
-use Rattle.vmar_protect.proofs.Pages.{pages-stay, few, in-range, range-touches, among, places-stay}
+use Rattle.vmar_protect.proofs.Pages.{pages-stay, few, in-range, range-touches, among, places-stay, in-range?}
 use Rattle.vmar_protect.proofs.Tables.{Given, Like, same, given-stays, carried, level-back, Step, step, Alike, alike-none, alike-step, alike-then, alike-wider}
 
 -- a root's range lies in one half
@@ -136,9 +135,9 @@ Page s r begin end v = (i : ℕ) × (j : ℕ) × InRange s r begin end i j × (p
 abbrev PageAt : Space → ℕ → ℕ → ℕ → ℕ → ℕ → Type 0
 PageAt s r begin end k v = (j : ℕ) × InRange s r begin end (mappingPlace s k) j × (pageAddr s (mappingPlace s k) j ≡ v)
 
--- the rights are those that an entry gives for `access`
-abbrev pub Rights : ℕ → ℕ → Type 0
-Rights access n = rights n ≡ rights (granted access)
+-- whatever the flags are
+abbrev pub Any : ℕ → Type 0
+Any n = Unit {0}
 
 -- the mappings of a region
 module _ (s : Space) (f : List ℕ) (g : Passes s f) (base used r begin end access : ℕ) (run : begin ≤ end) (low-end : begin % 4096 ≡ 0) (high-end : end % 4096 ≡ 0) where
@@ -169,23 +168,23 @@ module _ (s : Space) (f : List ℕ) (g : Passes s f) (base used r begin end acce
 
   -- one mapping, then those at the first n places
   place-alike : (t : Lent) → Good (t .pool) base used → (k : ℕ) → k < s .mapcount
-      → Alike (Rights access) base (PageAt s r begin end k) (t .pool) (mappingDone t (base / 4096) s r begin end access k .pool)
+      → Alike Any base (PageAt s r begin end k) (t .pool) (mappingDone t (base / 4096) s r begin end access k .pool)
   unfolding mappingDone
   place-alike t G k l =
       ⊎-elim
       (λ (e : touching (mappingAt s (mappingPlace s k)) r begin end ≡ true). rw e
-      (pages-alike base used access (Rights access) (PageAt s r begin end k) (canonical-at k) (mappingAt s (mappingPlace s k)) (mappingPlace s k) (changed (mappingAt s (mappingPlace s k)) begin end .first) t G
-      (changed (mappingAt s (mappingPlace s k)) begin end .count) (its-run (Rights access) t k l e (λ i h. granted-now (pageAt (t .flags) (mappingPlace s k) i) access))))
-      (λ (e : touching (mappingAt s (mappingPlace s k)) r begin end ≡ false). rw e (alike-none (Rights access) base (PageAt s r begin end k) (canonical-at k) (t .pool)))
+      (pages-alike base used access Any (PageAt s r begin end k) (canonical-at k) (mappingAt s (mappingPlace s k)) (mappingPlace s k) (changed (mappingAt s (mappingPlace s k)) begin end .first) t G
+      (changed (mappingAt s (mappingPlace s k)) begin end .count) (its-run Any t k l e (λ i h. tt))))
+      (λ (e : touching (mappingAt s (mappingPlace s k)) r begin end ≡ false). rw e (alike-none Any base (PageAt s r begin end k) (canonical-at k) (t .pool)))
       (tell (touching (mappingAt s (mappingPlace s k)) r begin end))
 
   pub places-alike : (t : Lent) → Good (t .pool) base used → (n : ℕ) → n ≤ s .mapcount
-      → Alike (Rights access) base (Page s r begin end) (t .pool) (mappingsDone t (base / 4096) s r begin end access n .pool)
+      → Alike Any base (Page s r begin end) (t .pool) (mappingsDone t (base / 4096) s r begin end access n .pool)
   unfolding mappingsDone
-  places-alike t G zero l = alike-none (Rights access) base (Page s r begin end) canonical (t .pool)
+  places-alike t G zero l = alike-none Any base (Page s r begin end) canonical (t .pool)
   places-alike t G (suc n) l =
-      alike-then (Rights access) base (Page s r begin end) canonical (t .pool) (mappingsDone t (base / 4096) s r begin end access n .pool) _ (places-alike t G n (omega arith))
-      (alike-wider (Rights access) base (PageAt s r begin end n) (canonical-at n) (Page s r begin end) (wider n) _ _
+      alike-then Any base (Page s r begin end) canonical (t .pool) (mappingsDone t (base / 4096) s r begin end access n .pool) _ (places-alike t G n (omega arith))
+      (alike-wider Any base (PageAt s r begin end n) (canonical-at n) (Page s r begin end) (wider n) _ _
       (place-alike (mappingsDone t (base / 4096) s r begin end access n) (mappings-kept base used t s r begin end access n .good G) n (omega arith)))
 
   -- the leaf of x is over page j of the mapping at place k
@@ -216,22 +215,7 @@ module _ (s : Space) (f : List ℕ) (g : Passes s f) (base used r begin end acce
       (pages-given base used access Q (PageAt s r begin end k) (canonical-at k) (mappingAt s (mappingPlace s k)) (mappingPlace s k) (changed (mappingAt s (mappingPlace s k)) begin end .first) t G
       (changed (mappingAt s (mappingPlace s k)) begin end .count) (its-run Q t k h y fit) j x (U .l) (U .w) (a .1) (a .2) (U .canonical) (U .shows) (U .leaf) (U .near))
 
-  -- and has the rights from then on
-  pub places-given : (t : Lent) → Good (t .pool) base used → (n k : ℕ) → n ≤ s .mapcount → k < n → (j x : ℕ) → Under (t .pool) k j x
-      → Given (Rights access) (showsIn (mappingsDone t (base / 4096) s r begin end access n .pool) base x)
-  unfolding mappingsDone
-  places-given t G zero k h d j x U = absurd (omega arith)
-  places-given t G (suc n) k h d j x U =
-      let u = mappingsDone t (base / 4096) s r begin end access n in
-      let G′ = mappings-kept base used t s r begin end access n .good G in
-      ⊎-elim
-      (λ (y : k ≡ n).
-      place-given (Rights access) u G′ n (omega arith) (λ i h. granted-now (pageAt (u .flags) (mappingPlace s n) i) access) j x
-      (subst (λ (i : ℕ). Under (u .pool) i j x) y (under-then (Rights access) _ _ (places-alike t G n (omega arith) .like) k j x U)))
-      (λ (y : k ≡ n → ⊥). given-stays (Rights access) _ _ (place-alike u G′ n (omega arith) .like x (U .canonical)) (places-given t G n k (omega arith) (omega arith) j x U))
-      (same? k n)
-
-  -- the flags themselves are those of the last mapping in the list with a page under that leaf
+  -- its flags are those of the last mapping in the list with a page under that leaf
   pub places-last : (p : List ℕ) → Good p base used → (n k : ℕ) → n ≤ s .mapcount → k < n → (j x : ℕ) → Under p k j x
       → ((m i : ℕ) → k < m → m < n → InRange s r begin end (mappingPlace s m) i → Over p base (pageAddr s (mappingPlace s m) i) x → ⊥)
       → Given (λ h. h ≡ granted (withRights (pageAt f (mappingPlace s k) j) access)) (showsIn (mappingsDone (lent f p) (base / 4096) s r begin end access n .pool) base x)
@@ -246,11 +230,11 @@ module _ (s : Space) (f : List ℕ) (g : Passes s f) (base used r begin end acce
       place-given (λ h. h ≡ granted (withRights (pageAt f (mappingPlace s k) j) access)) u G′ n (omega arith)
       (subst (λ (q : ℕ). (i : ℕ) → i < mappingAt s (mappingPlace s q) .size / 4096 → granted (withRights (pageAt (u .flags) (mappingPlace s q) i) access) ≡ granted (withRights (pageAt f (mappingPlace s k) j) access)) y
       (same-flags u k (omega arith) (U .page) (λ i l. places-stay s f g base r begin end access run low-end high-end (lent f p) n (mappingPlace s k) i (omega arith) l (λ q c e w. g .mappings .once q k (omega arith) (omega arith) (sym e)))))
-      j x (subst (λ (i : ℕ). Under (u .pool) i j x) y (under-then (Rights access) _ _ (A .like) k j x U)))
+      j x (subst (λ (i : ℕ). Under (u .pool) i j x) y (under-then Any _ _ (A .like) k j x U)))
       (λ (y : k ≡ n → ⊥).
       given-stays (λ h. h ≡ granted (withRights (pageAt f (mappingPlace s k) j) access)) _ _
       (same (place-alike u G′ n (omega arith) .far x (U .canonical) (λ v c o.
-      let b = level-back (Rights access) _ _ (o .0) (o .1) (A .like v (canonical-at n v c)) (o .2) in
+      let b = level-back Any _ _ (o .0) (o .1) (A .like v (canonical-at n v c)) (o .2) in
       later n (c .0) (omega arith) (omega arith) (c .1) (subst (λ (z : ℕ). Over p base z x) (sym (c .2)) (o .0, b .0, b .1, o .3)))))
       (places-last p G n k (omega arith) (omega arith) j x U (λ m i a b. later m i a (omega arith))))
       (same? k n)
@@ -265,3 +249,78 @@ module _ (s : Space) (f : List ℕ) (g : Passes s f) (base used r begin end acce
           let z = g .paged (mappingPlace s k) (q .0) (q .1) .few in
           ap (λ (y : ℕ). granted (withRights y access)) (stay i (omega arith))
           ∙ ap granted (alike-now (pageAt f (mappingPlace s k) i) (pageAt f (mappingPlace s k) j) access (o .known i h) (o .known j (w .page)) (o .alike i h ∙ sym (o .alike j (w .page))))
+
+-- the last number below n that has P, where one has
+last-of : (P : ℕ → Type 0) → ((k : ℕ) → P k ⊎ (P k → ⊥)) → (n k : ℕ) → k < n → P k → (m : ℕ) × (m < n) × P m × ((q : ℕ) → m < q → q < n → P q → ⊥)
+last-of P dec zero k l h = absurd (omega arith)
+last-of P dec (suc n) k l h =
+    ⊎-elim
+    (λ (y : P n). (n, omega arith, y, λ q a b. absurd (omega arith)))
+    (λ (y : P n → ⊥).
+    let z : (k ≡ n → ⊥) = λ e. y (subst P e h) in
+    let w = last-of P dec n k (omega arith) h in
+    let w1 = w .1 in
+    (w .0, omega arith, w .2, λ q a b c. ⊎-elim (λ (e : q ≡ n). y (subst P e c)) (λ (e : q ≡ n → ⊥). w .3 q a (omega arith) c) (same? q n)))
+    (dec n)
+
+-- one number below n that has P, or none
+one-of : (P : ℕ → Type 0) → ((k : ℕ) → P k ⊎ (P k → ⊥)) → (n : ℕ) → ((k : ℕ) × P k) ⊎ ((k : ℕ) → k < n → P k → ⊥)
+one-of P dec zero = inr (λ k l h. absurd (omega arith))
+one-of P dec (suc n) =
+    ⊎-elim
+    (λ (y : P n). inl (n, y))
+    (λ (y : P n → ⊥). ⊎-elim
+    (λ w. inl w)
+    (λ (none : (k : ℕ) → k < n → P k → ⊥). inr (λ k l h. ⊎-elim (λ (e : k ≡ n). y (subst P e h)) (λ (e : k ≡ n → ⊥). none k (omega arith) h) (same? k n)))
+    (one-of P dec n))
+    (dec n)
+
+-- the entry over v is over x, or it is not
+over? : (p : List ℕ) (base v x : ℕ) → Over p base v x ⊎ (Over p base v x → ⊥)
+over? p base v x = go (showsIn p base v) refl
+  where
+    go : (y : View) → showsIn p base v ≡ y → Over p base v x ⊎ (Over p base v x → ⊥)
+    go (view l w) e =
+        ⊎-elim
+        (λ (n : x / span l ≡ v / span l). inl (l, w, e, n))
+        (λ (n : x / span l ≡ v / span l → ⊥). inr (λ o.
+        let q : view (o .0) (o .1) ≡ view l w = sym (o .2) ∙ e in
+        let q0 : o .0 ≡ l = cc in
+        n (subst (λ (i : ℕ). x / span i ≡ v / span i) q0 (o .3))))
+        (same? (x / span l) (v / span l))
+
+-- where some page in the range lies under the entry over x, one is the last
+module _ (s : Space) (f : List ℕ) (g : Passes s f) (p : List ℕ) (base r begin end x : ℕ) where
+  -- page j of the mapping at place k is such
+  abbrev PageOver : ℕ → ℕ → Type 0
+  PageOver k j = (k < s .mapcount) × InRange s r begin end (mappingPlace s k) j × Over p base (pageAddr s (mappingPlace s k) j) x
+
+  page-over? : (k j : ℕ) → PageOver k j ⊎ (PageOver k j → ⊥)
+  page-over? k j =
+      ⊎-elim
+      (λ (l : k < s .mapcount). ⊎-elim
+      (λ (w : InRange s r begin end (mappingPlace s k) j). ⊎-elim
+      (λ (o : Over p base (pageAddr s (mappingPlace s k) j) x). inl (l, w, o))
+      (λ (o : Over p base (pageAddr s (mappingPlace s k) j) x → ⊥). inr (λ c. o (c .2)))
+      (over? p base (pageAddr s (mappingPlace s k) j) x))
+      (λ (w : InRange s r begin end (mappingPlace s k) j → ⊥). inr (λ c. w (c .1)))
+      (in-range? s r begin end (mappingPlace s k) j (mapping-place g k l .0)))
+      (λ (l : s .mapcount ≤ k). inr (λ c. let z = c .0 in omega arith))
+      (below? k (s .mapcount))
+
+  place-over? : (k : ℕ) → ((j : ℕ) × PageOver k j) ⊎ ((j : ℕ) × PageOver k j → ⊥)
+  place-over? k =
+      ⊎-elim
+      (λ w. inl w)
+      (λ (none : (j : ℕ) → j < 512 → PageOver k j → ⊥). inr (λ c.
+      let w = c .1 .1 in
+      let z = g .paged (mappingPlace s k) (w .slot) (w .live) .few in
+      let y = w .page in
+      none (c .0) (omega arith) (c .1)))
+      (one-of (PageOver k) (page-over? k) 512)
+
+  pub last-over : (k j : ℕ) → PageOver k j → (m : ℕ) × (i : ℕ) × LastOver s p base r begin end x m i
+  last-over k j c =
+      let w = last-of (λ i. (j : ℕ) × PageOver i j) place-over? (s .mapcount) k (c .0) (j, c) in
+      let o = w .2 .1 in
+      (w .0, w .2 .0, record { place = w .1; page = o .1; over = o .2; last = λ m i a b d e. w .3 m a b (i, (b, d, e)) })

@@ -1,12 +1,11 @@
 -- Page flags with other rights, bit by bit.
-use Prim.Native.Nat.{ℕ, _+_, _*_, _/_, _%_, _<_, min}
-use mathlib.Core.Path.{_≡_, sym, _∙_, ap}
+use Prim.Native.Nat.{ℕ, _+_, _*_, _/_, _%_, _<_}
+use mathlib.Core.Path.{_≡_, _∙_, ap}
 use mathlib.Core.Bool.{true}
 use native.Mathlib.Omega.{arith}
 use borrow.Author.Tests.{eqb-true, eq-eqb}
 use lib.Bits.{bitAnd, bitOr, and-high, and-mask, and-block, and-comm, and-shifted, and-zero-r, or-disjoint}
 use Rattle.common.specs.Flags.{READ, WRITE, EXECUTE, USER, HUGE_PAGE, has, ofFive, knownPage, rights}
-use Rattle.x86_64.specs.Entry.{anyRight, granted}
 use Rattle.space.specs.Passes.{others}
 use Rattle.vmar_protect.specs.Protect.{withRights}
 use Rattle.vmar_protect.specs.Laws.{Righted}
@@ -68,6 +67,7 @@ righted old f k =
       execute = b .2;
       user = b .3;
       huge = b .4;
+      entry = omega (arith, b .0, b .1, b .2, b .3);
     }
 
 -- pages that differ in their rights only have the same flags then
@@ -77,41 +77,3 @@ alike-now a b f k l e = omega (arith, new-sum a f k, new-sum b f l)
 -- what a page has beside its rights stays
 pub others-stay : (old f : ℕ) → knownPage old ≡ true → others (withRights old f) ≡ others old
 others-stay old f k = let b = righted old f k in omega (arith, b .user, b .huge)
-
--- whatever the flags were, their rights are the new ones now, and so are those that an entry gives
-bits-now : (old f : ℕ) → withRights old f / 4 % 8 ≡ f / 4 % 8
-bits-now old f = ap (λ (n : ℕ). n / 4 % 8) parts ∙ by (old / 32) (f / 4 % 8) (old % 4) (omega arith) (omega arith)
-  where
-    whole : old ≡ old / 32 * 32 + old / 4 % 8 * 4 + old % 4
-    whole = omega arith
-
-    parts : withRights old f ≡ old / 32 * 32 + f / 4 % 8 * 4 + old % 4
-    parts = omega (arith, rights-bits old, rights-bits f, whole)
-
-    by : (a y c : ℕ) → y < 8 → c < 4 → (a * 32 + y * 4 + c) / 4 % 8 ≡ y
-    by a y c h l = omega arith
-
-each-now : (old f : ℕ) → (has READ (withRights old f) ≡ has READ f) × (has WRITE (withRights old f) ≡ has WRITE f) × (has EXECUTE (withRights old f) ≡ has EXECUTE f)
-each-now old f = one (withRights old f) f (bits-now old f)
-  where
-    one : (n f : ℕ) → n / 4 % 8 ≡ f / 4 % 8 → (has READ n ≡ has READ f) × (has WRITE n ≡ has WRITE f) × (has EXECUTE n ≡ has EXECUTE f)
-    one n f e = (omega arith, omega arith, omega arith)
-
-any-lt : (f : ℕ) → anyRight f < 2
-any-lt f = omega arith
-
--- the rights that an entry gives
-pub granted-rights : (f : ℕ) → rights (granted f) ≡ anyRight f * 4 + has WRITE f * 8 + has EXECUTE f * 16
-granted-rights f = rights-bits (granted f) ∙ by (anyRight f) (has WRITE f) (has EXECUTE f) (has USER f) (any-lt f) (omega arith) (omega arith)
-  where
-    by : (r w x u : ℕ) → r < 2 → w < 2 → x < 2 → (r * 4 + w * 8 + x * 16 + u * 32) / 4 % 8 * 4 ≡ r * 4 + w * 8 + x * 16
-    by r w x u a b c = omega arith
-
-pub granted-now : (old f : ℕ) → rights (granted (withRights old f)) ≡ rights (granted f)
-granted-now old f =
-    let e = each-now old f in
-    granted-rights (withRights old f)
-    ∙ ap (λ (r : ℕ). min 1 (r + has WRITE (withRights old f) + has EXECUTE (withRights old f)) * 4 + has WRITE (withRights old f) * 8 + has EXECUTE (withRights old f) * 16) (e .0)
-    ∙ ap (λ (w : ℕ). min 1 (has READ f + w + has EXECUTE (withRights old f)) * 4 + w * 8 + has EXECUTE (withRights old f) * 16) (e .1)
-    ∙ ap (λ (x : ℕ). min 1 (has READ f + has WRITE f + x) * 4 + has WRITE f * 8 + x * 16) (e .2)
-    ∙ sym (granted-rights f)

@@ -7,10 +7,10 @@ use mathlib.Core.Bool.{true}
 use mathlib.Core.List.{List}
 use Rattle.paging.specs.Level.{span, Canonical}
 use Rattle.paging.specs.Table.{view, to}
-use Rattle.common.specs.Flags.{READ, WRITE, EXECUTE, USER, HUGE_PAGE, has, knownPage, rights}
+use Rattle.common.specs.Flags.{READ, WRITE, EXECUTE, USER, HUGE_PAGE, has, knownPage}
 use Rattle.common.specs.declared.defs.MMUFlags.{MMUFlags}
 use Rattle.common.specs.declared.vm.PageSize.{PageSize}
-use Rattle.x86_64.specs.Entry.{granted}
+use Rattle.x86_64.specs.Entry.{anyRight, granted}
 use Rattle.form.specs.Form.{Good}
 use Rattle.refusal.specs.declared.Refusal.{Refusal}
 use Rattle.space.specs.Space.{mappingAt, isMapping, mappingPlace}
@@ -34,6 +34,8 @@ pub record Righted (old access : ℕ) : Type 0 where
   pub execute : has EXECUTE (withRights old access) ≡ has EXECUTE access
   pub user : has USER (withRights old access) ≡ has USER old
   pub huge : has HUGE_PAGE (withRights old access) ≡ has HUGE_PAGE old
+  -- an entry gives the rights, READ with any of them, and that USER
+  pub entry : granted (withRights old access) ≡ anyRight access * READ + has WRITE access * WRITE + has EXECUTE access * EXECUTE + has USER old * USER
 
 -- page j of the mapping in slot i begins at this address
 abbrev pub pageAddr : Space → ℕ → ℕ → ℕ
@@ -91,13 +93,11 @@ pub record Protects (s : Space) (f p : List ℕ) (base used id begin len access 
   -- an address that lies in no leaf over a page in the range keeps its rights too
   pub elsewhere : (x : ℕ) → Canonical 4 x → ((i j : ℕ) → InRange s (slotOf s id) begin (begin + len) i j → Over p base (pageAddr s i j) x → ⊥)
       → translatesIn (call s f p base id begin len access .pool) base x ≡ translatesIn p base x
-  -- and one that lies in a leaf over such a page has the rights, as an entry gives them: READ comes with any right
+  -- and one that lies in a leaf over such a page has what an entry gives for the flags of the last such page, USER with them; all pages of one mapping give the same
   pub given : call s f p base id begin len access .result ≡ result.Protected → (i j : ℕ) → InRange s (slotOf s id) begin (begin + len) i j
       → (x a g : ℕ) → Canonical 4 x → Over p base (pageAddr s i j) x → translatesIn p base x ≡ to a g
-      → (h : ℕ) × (translatesIn (call s f p base id begin len access .pool) base x ≡ to a h) × (rights h ≡ rights (granted access))
-  -- it has the flags of the last such page, USER with them: all pages of one mapping have the same
-  pub last-given : call s f p base id begin len access .result ≡ result.Protected → (x a g k j : ℕ) → Canonical 4 x → LastOver s p base (slotOf s id) begin (begin + len) x k j
-      → translatesIn p base x ≡ to a g → translatesIn (call s f p base id begin len access .pool) base x ≡ to a (granted (withRights (pageAt f (mappingPlace s k) j) access))
+      → (k : ℕ) × (m : ℕ) × LastOver s p base (slotOf s id) begin (begin + len) x k m
+      × (translatesIn (call s f p base id begin len access .pool) base x ≡ to a (granted (withRights (pageAt f (mappingPlace s k) m) access)))
 
 -- What is proved of every space that passes its check, every good pool and every call.
 pub record ProtectLaws : Type 0 where
