@@ -56,7 +56,7 @@ pub none-passes : (p : ℕ → Bool) (i n j : ℕ) → some p i n ≡ false → 
 unfolding some
 none-passes p i n j e a b = someOf-not p (n - i) i j e a (omega arith)
 
-firstOf-is : (p : ℕ → Bool) (k i : ℕ) → firstOf p i k < i + k → p (firstOf p i k) ≡ true
+pub firstOf-is : (p : ℕ → Bool) (k i : ℕ) → firstOf p i k < i + k → p (firstOf p i k) ≡ true
 unfolding firstOf
 firstOf-is p zero i h = absurd (omega arith)
 firstOf-is p (suc k) i h =
@@ -65,7 +65,7 @@ firstOf-is p (suc k) i h =
     (λ f. rw f (firstOf-is p k (i + 1) (let g : firstOf p (i + 1) k < i + suc k = rw f at h in omega arith)))
     (tell (p i))
 
-firstOf-from : (p : ℕ → Bool) (k i : ℕ) → (i ≤ firstOf p i k) × (firstOf p i k ≤ i + k)
+pub firstOf-from : (p : ℕ → Bool) (k i : ℕ) → (i ≤ firstOf p i k) × (firstOf p i k ≤ i + k)
 unfolding firstOf
 firstOf-from p zero i = (omega arith, omega arith)
 firstOf-from p (suc k) i =
@@ -74,7 +74,7 @@ firstOf-from p (suc k) i =
     (λ f. let g = firstOf-from p k (i + 1) in rw f (omega (arith, g .0), omega (arith, g .1)))
     (tell (p i))
 
-firstOf-before : (p : ℕ → Bool) (k i j : ℕ) → i ≤ j → j < firstOf p i k → p j ≡ false
+pub firstOf-before : (p : ℕ → Bool) (k i j : ℕ) → i ≤ j → j < firstOf p i k → p j ≡ false
 unfolding firstOf
 firstOf-before p zero i j a h = absurd (omega arith)
 firstOf-before p (suc k) i j a h =

@@ -23,7 +23,7 @@ pub child-parent : (g : Region) (r b e : ℕ) → isChildIn g r b e ≡ true →
 unfolding isChildIn
 child-parent g r b e q = ⊎-elim (λ (a : eqb (g .parent) r ≡ true). eqb-true (g .parent) r a) (λ (a : eqb (g .parent) r ≡ false). no-truth (rw a at q)) (tell (eqb (g .parent) r))
 
-child-of : (g : Region) (r b e : ℕ) → g .parent ≡ r → inside (g .addr) (g .size) b (e - b) ≡ true → isChildIn g r b e ≡ true
+pub child-of : (g : Region) (r b e : ℕ) → g .parent ≡ r → inside (g .addr) (g .size) b (e - b) ≡ true → isChildIn g r b e ≡ true
 unfolding isChildIn
 child-of g r b e q i = rw (eq-eqb (g .parent) r q, i)
 

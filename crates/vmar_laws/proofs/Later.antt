@@ -12,7 +12,7 @@ use Rattle.space.specs.declared.Region.{Region}
 use Rattle.space.specs.declared.Mapping.{Mapping}
 use Rattle.space.specs.declared.Space.{Space}
 use Rattle.vmar_offset.specs.Offset.{hasId, idAt, slotOf}
-use Rattle.vmar_offset.proofs.Found.{slot-live}
+use Rattle.vmar_offset.proofs.Found.{id-of, has-id, slot-live}
 use Rattle.vmar_laws.specs.Later.{Later, ForEver}
 use Rattle.vmar_laws.proofs.Lists.{same-first, the-first}
 use Rattle.vmar_laws.proofs.Slots.{Fills, here, there, kept}
@@ -51,11 +51,7 @@ later-more s t u a b = record { ids = let x = a .ids in let y = b .ids in omega 
 pub for-ever : ForEver
 for-ever = record { none = later-none; more = later-more }
 
--- what has an id, and what has not
-has-id : (g : Region) (id : ℕ) → g .live ≡ true → g .id ≡ id → hasId g id ≡ true
-unfolding hasId
-has-id g id a e = rw (a, eq-eqb (g .id) id e)
-
+-- what has not an id
 no-id : (g : Region) (id : ℕ) → (g .id ≡ id → ⊥) → hasId g id ≡ false
 unfolding hasId
 no-id g id n = ⊎-elim (λ (a : g .live ≡ true). rw (a, ne-eqb (g .id) id n)) (λ (a : g .live ≡ false). rw a) (tell (g .live))
@@ -63,10 +59,6 @@ no-id g id n = ⊎-elim (λ (a : g .live ≡ true). rw (a, ne-eqb (g .id) id n))
 not-live : (g : Region) (id : ℕ) → g .live ≡ false → hasId g id ≡ false
 unfolding hasId
 not-live g id a = rw a
-
-pub id-of : (g : Region) (id : ℕ) → hasId g id ≡ true → (g .live ≡ true) × (g .id ≡ id)
-unfolding hasId
-id-of g id t = ⊎-elim (λ (a : g .live ≡ true). (a, eqb-true (g .id) id (rw a at t))) (λ (a : g .live ≡ false). no-truth (rw a at t)) (tell (g .live))
 
 -- a region with the next id in a free slot: no other id sees a change, and it is found by its own
 module _ (s : Space) (i : ℕ) (g : Region) (fills : Fills (λ (h : Region). h .live) blankRegion (s .regions) 32 i g) (id-is : g .id ≡ s .nextid) where

@@ -29,7 +29,7 @@ use Rattle.vmar_laws.specs.Search.{FreeIn, NoChild, FirstFit, NoFit, One
 use Rattle.vmar_laws.specs.Search as fit
 
 -- a child of r that does not meet a range does not overlap it, nor does a mapping
-apart-child : (g : Region) (r b n : ℕ) → childMeets g r b n ≡ false → g .live ≡ true → g .parent ≡ r → overlap (g .addr) (g .size) b n ≡ false
+pub apart-child : (g : Region) (r b n : ℕ) → childMeets g r b n ≡ false → g .live ≡ true → g .parent ≡ r → overlap (g .addr) (g .size) b n ≡ false
 unfolding childMeets
 apart-child g r b n e a q = rw (a, eq-eqb (g .parent) r q) at e
 

@@ -5,7 +5,7 @@ use mathlib.Core.Bool.{Bool, true, false, not}
 use mathlib.Core.Logic.{_⊎_, inl, inr, ⊎-elim}
 use native.Mathlib.Omega.{arith}
 use lib.Dec.{leb, ltb, eqb}
-use borrow.Author.Tests.{ltb-true, eqb-true, not-true}
+use borrow.Author.Tests.{ltb-true, eqb-true, eq-eqb, not-true}
 use Rattle.paging.proofs.Cases.{no-truth}
 use Rattle.scan.specs.Scan.{first}
 use Rattle.scan.proofs.Scans.{tell, first-passes, first-most}
@@ -26,12 +26,16 @@ use Rattle.vmar_offset.proofs.Offsets.{too-long, at-zero, at-child, at-
 below-most : (n k : ℕ) → k ≤ n → (k ≡ n → ⊥) → k < n
 below-most n k l e = omega arith
 
-parts : (g : Region) (id : ℕ) → hasId g id ≡ true → (g .live ≡ true) × (g .id ≡ id)
+pub id-of : (g : Region) (id : ℕ) → hasId g id ≡ true → (g .live ≡ true) × (g .id ≡ id)
 unfolding hasId
-parts g id t = ⊎-elim (λ (a : g .live ≡ true). (a, eqb-true (g .id) id (rw a at t))) (λ (a : g .live ≡ false). no-truth (rw a at t)) (tell (g .live))
+id-of g id t = ⊎-elim (λ (a : g .live ≡ true). (a, eqb-true (g .id) id (rw a at t))) (λ (a : g .live ≡ false). no-truth (rw a at t)) (tell (g .live))
+
+pub has-id : (g : Region) (id : ℕ) → g .live ≡ true → g .id ≡ id → hasId g id ≡ true
+unfolding hasId
+has-id g id a e = rw (a, eq-eqb (g .id) id e)
 
 pub slot-live : (s : Space) (id : ℕ) → (slotOf s id ≡ 32 → ⊥) → (slotOf s id < 32) × (isRegion s (slotOf s id) ≡ true) × (regionAt s (slotOf s id) .id ≡ id)
-slot-live s id e = let q = parts (regionAt s (slotOf s id)) id (first-passes (idAt s id) 32 l) in (l, q .0, q .1)
+slot-live s id e = let q = id-of (regionAt s (slotOf s id)) id (first-passes (idAt s id) 32 l) in (l, q .0, q .1)
   where
     l : slotOf s id < 32
     l = below-most 32 (slotOf s id) (first-most (idAt s id) 32) e

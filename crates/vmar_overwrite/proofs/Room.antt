@@ -14,7 +14,7 @@ use Rattle.paging.proofs.Cases.{below?, no-truth, clash}
 use Rattle.refusal.specs.declared.Refusal.{Refusal}
 use Rattle.refusal.specs.declared.Refusal.the-variants.{InvalidArgs, NoFrames, NoSlot, ChildDead}
 use Rattle.scan.specs.Scan.{first, firstOf, some}
-use Rattle.scan.proofs.Scans.{tell}
+use Rattle.scan.proofs.Scans.{tell, firstOf-is, firstOf-from, firstOf-before}
 use Rattle.scan.proofs.Pigeons.{fewer}
 use Rattle.space.specs.Space.{isMapping, mappingAt, mappingPlace}
 use Rattle.space.specs.Passes.{Passes}
@@ -78,37 +78,13 @@ not-short len slot z =
     (λ (l : ltb 0x200000 len ≡ false). (ltb-false _ _ l, leb-false 64 slot (rw l at z)))
     (tell (ltb 0x200000 len))
 
--- the first from i on
-from-is : (p : ℕ → Bool) (k i : ℕ) → firstOf p i k < i + k → p (firstOf p i k) ≡ true
-unfolding firstOf
-from-is p zero i h = absurd (omega arith)
-from-is p (suc k) i h =
-    ⊎-elim
-    (λ t. rw t t)
-    (λ f. rw f (from-is p k (i + 1) (let g : firstOf p (i + 1) k < i + suc k = rw f at h in omega arith)))
-    (tell (p i))
-
-from-least : (p : ℕ → Bool) (k i : ℕ) → i ≤ firstOf p i k
-unfolding firstOf
-from-least p zero i = omega arith
-from-least p (suc k) i = ⊎-elim (λ t. rw t (omega arith)) (λ f. let g = from-least p k (i + 1) in rw f (omega arith)) (tell (p i))
-
-from-before : (p : ℕ → Bool) (k i j : ℕ) → i ≤ j → j < firstOf p i k → p j ≡ false
-unfolding firstOf
-from-before p zero i j a h = absurd (omega arith)
-from-before p (suc k) i j a h =
-    ⊎-elim
-    (λ t. absurd (let g : j < i = rw t at h in omega arith))
-    (λ f. ⊎-elim (λ q. subst (λ (x : ℕ). p x ≡ false) q f) (λ l. from-before p k (i + 1) j (omega arith) (rw f at h)) (eq-or-lt-of-le a))
-    (tell (p i))
-
 pub first-from : (p : ℕ → Bool) (i n : ℕ) → first p i n < n → (i ≤ first p i n) × (p (first p i n) ≡ true)
 unfolding first
-first-from p i n h = let g = from-least p (n - i) i in (g, from-is p (n - i) i (omega arith))
+first-from p i n h = let g = firstOf-from p (n - i) i .0 in (g, firstOf-is p (n - i) i (omega arith))
 
 pub first-before : (p : ℕ → Bool) (i n j : ℕ) → i ≤ j → j < first p i n → p j ≡ false
 unfolding first
-first-before p i n j a h = from-before p (n - i) i j a h
+first-before p i n j a h = firstOf-before p (n - i) i j a h
 
 -- a free slot after the lowest free one
 pub record TwoFree (s : Space) : Type 0 where

@@ -21,7 +21,9 @@ use Rattle.space.proofs.Ranges.{apart-of, inner-of, holds, holds-of}
 use Rattle.vmar_offset.specs.Offset.{freeMapping, childMeets}
 use Rattle.vmar_doom.specs.Doomed.{isChildIn, Doomed, marked}
 use Rattle.vmar_doom.specs.Doomed as doomed
+use Rattle.vmar_cuts.proofs.Below.{child-of}
 use Rattle.vmar_laws.specs.Search.{FreeIn}
+use Rattle.vmar_laws.proofs.Search.{apart-child}
 use Rattle.vmar_laws.specs.Maps.{MappingsKept, PagesGiven}
 use Rattle.vmar_prune.specs.Prune.{splitSlot}
 use Rattle.vmar_prune_laws.specs.Calls.{Marking}
@@ -31,24 +33,13 @@ use Rattle.vmar_prune_laws.proofs.Passing.{apart-any}
 use Rattle.vmar_prune_laws.proofs.Cuts.{cut-all}
 use Rattle.vmar_prune_laws.proofs.Calls.{calls-all}
 use Rattle.vmar_unmap.specs.Unmap.{isPartly, partlyAt}
+use Rattle.vmar_unmap_laws.proofs.Tests.{partly-from}
 use Rattle.vmar_overwrite.specs.Overwrite.{newSlot}
 use Rattle.vmar_overwrite.proofs.Room.{two-free, slot-second, split-room}
 use Rattle.vmar_overwrite_laws.specs.Overwrites.{NewMapping, cutOf, flagsOf}
 use Rattle.vmar_overwrite_laws.proofs.Slots.{slot-is}
 
 -- a child that the range does not meet, one that it meets in part, one within it
-off-child : (g : Region) (r b n : ℕ) → childMeets g r b n ≡ false → g .live ≡ true → g .parent ≡ r → overlap (g .addr) (g .size) b n ≡ false
-unfolding childMeets
-off-child g r b n e a q = rw (a, eq-eqb (g .parent) r q) at e
-
-partly-of : (g : Region) (r b e : ℕ) → childMeets g r b (e - b) ≡ true → inside (g .addr) (g .size) b (e - b) ≡ false → isPartly g r b e ≡ true
-unfolding isPartly
-partly-of g r b e m i = rw (m, i)
-
-child-in-of : (g : Region) (r b e : ℕ) → g .parent ≡ r → inside (g .addr) (g .size) b (e - b) ≡ true → isChildIn g r b e ≡ true
-unfolding isChildIn
-child-in-of g r b e q t = rw (eq-eqb (g .parent) r q) t
-
 module _ (s : Space) (f : List ℕ) (arrays : Arrays s) (p : Passes s f) (r b len : ℕ) (low : r < 32) (live : isRegion s r ≡ true) (begin : b % 4096 ≡ 0) (whole : len % 4096 ≡ 0)
     (positive : 0 < len) (none : some (partlyAt s r b (b + len)) 0 32 ≡ false) (room : newSlot s r b (b + len) < 64) (from : regionAt s r .addr ≤ b)
     (to : b + len ≤ regionAt s r .addr + regionAt s r .size) where
@@ -109,10 +100,10 @@ module _ (s : Space) (f : List ℕ) (arrays : Arrays s) (p : Passes s f) (r b le
       ⊎-elim
       (λ (t : childMeets g r b (e - b) ≡ true). ⊎-elim
       (λ (i : inside (g .addr) (g .size) b (e - b) ≡ true).
-      absurd (decided-false (Doomed s r b e j) (getD marks j false) (marking .doomed j l) m (doomed.child j l a (child-in-of g r b e q i))))
-      (λ (i : inside (g .addr) (g .size) b (e - b) ≡ false). clash (isPartly g r b e) (partly-of g r b e t i) apart)
+      absurd (decided-false (Doomed s r b e j) (getD marks j false) (marking .doomed j l) m (doomed.child j l a (child-of g r b e q i))))
+      (λ (i : inside (g .addr) (g .size) b (e - b) ≡ false). clash (isPartly g r b e) (partly-from g r b e t i) apart)
       (tell (inside (g .addr) (g .size) b (e - b))))
-      (λ (t : childMeets g r b (e - b) ≡ false). subst (λ (n : ℕ). overlap (g .addr) (g .size) b n ≡ false) length-is (off-child g r b (e - b) t a q))
+      (λ (t : childMeets g r b (e - b) ≡ false). subst (λ (n : ℕ). overlap (g .addr) (g .size) b n ≡ false) length-is (apart-child g r b (e - b) t a q))
       (tell (childMeets g r b (e - b)))
 
   child-clear : (j : ℕ) → j < 32 → isRegion c j ≡ true → regionAt c j .parent ≡ r → overlap (regionAt c j .addr) (regionAt c j .size) b len ≡ false

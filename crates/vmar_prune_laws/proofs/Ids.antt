@@ -17,7 +17,7 @@ use Rattle.space.specs.declared.Space.{Space}
 use Rattle.vmar_offset.specs.Offset.{hasId, idAt, slotOf}
 use Rattle.vmar_laws.specs.Later.{Later}
 use Rattle.vmar_laws.proofs.Lists.{the-first}
-use Rattle.vmar_laws.proofs.Later.{id-of}
+use Rattle.vmar_offset.proofs.Found.{id-of}
 use Rattle.vmar_prune_laws.specs.Cutting.{Cutting}
 use Rattle.vmar_prune_laws.proofs.Shape.{Shape}
 use Rattle.vmar_prune_laws.proofs.Passing.{stands, was}

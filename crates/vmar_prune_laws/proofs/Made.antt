@@ -33,6 +33,7 @@ use Rattle.vmar_prune_laws.proofs.Pieces.{before-most, after-most, outc
 use Rattle.vmar_prune_laws.proofs.Copies.{copied-length, copy-moved, copy-other, same-pages, Begins, after-length, after-same, after-moved}
 use Rattle.vmar_prune_laws.proofs.Shape.{Second, First, old, new, Shape}
 use Rattle.vmar_prune_laws.proofs.Passing.{apart-any}
+use Rattle.vmar_prune.proofs.Parts.{mappings-length}
 
 -- the arrays of records
 regions-at : (marks : List Bool) (l : List Region) (n i : ℕ) → i < n → i < length l → getD (regionsTo marks l n) i blankRegion ≡ keptRegion marks i (getD l i blankRegion)
@@ -47,10 +48,6 @@ mappings-at : (marks : List Bool) (r b e : ℕ) (l : List Mapping) (n i : ℕ) �
     → getD (mappingsTo marks r b e l n) i blankMapping ≡ keptMapping marks r b e (getD l i blankMapping)
 unfolding mappingsTo
 mappings-at marks r b e l n i = each-at blankMapping l (λ (k : ℕ) (m : Mapping). keptMapping marks r b e m) (mappingsTo marks r b e l) refl (λ k. refl) n i
-
-mappings-length : (marks : List Bool) (r b e : ℕ) (l : List Mapping) (n : ℕ) → length (mappingsTo marks r b e l n) ≡ length l
-unfolding mappingsTo
-mappings-length marks r b e l n = each-length blankMapping l (λ (k : ℕ) (m : Mapping). keptMapping marks r b e m) (mappingsTo marks r b e l) refl (λ k. refl) n
 
 module _ {s : Space} {f : List ℕ} {marks : List Bool} {r b e : ℕ} (c : Cutting s f marks r b e) where
   abbrev p : Passes s f

@@ -24,7 +24,7 @@ use Rattle.vmar_unmap.specs.declared.CutResult.the-variants as result
 use Rattle.vmar_unmap.proofs.Calls.{clear-frames, clear-cut, clear-unissued, clear-gone, clear-live}
 use Rattle.vmar_unmap_laws.specs.Ready.{Ready, Same}
 use Rattle.vmar_unmap_laws.specs.Clears.{ClearAnswers, unissued, dead, frames, done, ClearDone, ClearsAll}
-use Rattle.vmar_unmap_laws.proofs.Left.{same-slot}
+use Rattle.vmar_unmap_laws.proofs.Left.{done-refused, same-slot}
 use Rattle.vmar_unmap_laws.proofs.Tests.{none-dead}
 use Rattle.vmar_unmap_laws.proofs.Clear.{clear-own, clear-done}
 
@@ -33,9 +33,6 @@ data Ends (base : ℕ) (st : State) (id : ℕ) (itself : Bool) : CutDone → Typ
   refusal : (why : Refusal) → ClearAnswers st id (result.Refused why) → Ends base st id itself (refused st why)
   accepts : (t : State) → ClearAnswers st id result.Done → ClearDone base st t (slotOf (st .space) id) itself
       → (itself ≡ false → Same (st .space) (t .space) id) → (regionAt (st .space) (slotOf (st .space) id) .id ≡ id) → Ends base st id itself (record { result = result.Done; state = t })
-
-done-refused : {A : Type 0} {why : Refusal} → _≡_ {A = CutResult} result.Done (result.Refused why) → A
-done-refused e = let z : _≡_ {A = ℕ} 0 1 = cc in absurd (omega arith)
 
 module _ (base : ℕ) (st : State) (R : Ready base st) (id : ℕ) (itself : Bool) where
   abbrev r : ℕ

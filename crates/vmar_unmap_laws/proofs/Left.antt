@@ -21,13 +21,16 @@ use Rattle.space.proofs.Ranges.{holds-of}
 use Rattle.table_cuts.specs.Cuts as table
 use Rattle.table_cuts.specs.Laws.{AllCut}
 use Rattle.vmar_offset.specs.Offset.{hasId, idAt, slotOf}
-use Rattle.vmar_offset.proofs.Found.{slot-live}
+use Rattle.vmar_offset.proofs.Found.{has-id, slot-live}
 use Rattle.vmar_laws.specs.Later.{Later}
 use Rattle.vmar_cuts.specs.Laws.{Lies}
 use Rattle.vmar_cuts.proofs.Parts.{mapping-fits}
 use Rattle.vmar_prune_laws.specs.Order.{InOrder}
 use Rattle.vmar_prune_laws.specs.Cut.{Cut, SameAt}
+use Rattle.refusal.specs.declared.Refusal.{Refusal}
 use Rattle.vmar_unmap.specs.Unmap.{State, tablesOf, freeFrames}
+use Rattle.vmar_unmap.specs.declared.CutResult.{CutResult}
+use Rattle.vmar_unmap.specs.declared.CutResult.the-variants as result
 use Rattle.vmar_unmap_laws.specs.Ready.{Frames, RegionsLeft, Same}
 use Rattle.vmar_unmap_laws.proofs.One.{one-holds}
 
@@ -50,10 +53,8 @@ frames-of base st t cs c l = record {
   long = c .long;
 }
 
--- a region of this id is found
-has-id : (g : Region) (id : ℕ) → g .live ≡ true → g .id ≡ id → hasId g id ≡ true
-unfolding hasId
-has-id g id a q = rw (a, eq-eqb (g .id) id q)
+pub done-refused : {A : Type 0} {why : Refusal} → _≡_ {A = CutResult} result.Done (result.Refused why) → A
+done-refused e = let z : _≡_ {A = ℕ} 0 1 = cc in absurd (omega arith)
 
 -- one that is as it was is found where it was
 pub same-slot : (s t : Space) (id : ℕ) → Later s t → id < s .nextid → (slotOf s id ≡ 32 → ⊥) → regionAt t (slotOf s id) ≡ regionAt s (slotOf s id) → Same s t id

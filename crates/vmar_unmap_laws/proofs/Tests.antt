@@ -61,7 +61,7 @@ partly-parts g r b e t =
     (λ (m : childMeets g r b (e - b) ≡ false). no-truth (rw m at t))
     (tell (childMeets g r b (e - b)))
 
-partly-from : (g : Region) (r b e : ℕ) → childMeets g r b (e - b) ≡ true → inside (g .addr) (g .size) b (e - b) ≡ false → isPartly g r b e ≡ true
+pub partly-from : (g : Region) (r b e : ℕ) → childMeets g r b (e - b) ≡ true → inside (g .addr) (g .size) b (e - b) ≡ false → isPartly g r b e ≡ true
 unfolding isPartly
 partly-from g r b e m i = rw (m, i)
 

@@ -26,7 +26,7 @@ use Rattle.vmar_unmap.specs.declared.CutResult.the-variants as result
 use Rattle.vmar_unmap.proofs.Calls.{whole-pages, has-slot, range-partly, range-short, range-frames, range-cut, in-dead, in-over, in-range, unmap-unissued, unmap-odd, unmap-odd-length, unmap-nothing, unmap-some}
 use Rattle.vmar_unmap_laws.specs.Ready.{Ready, Same}
 use Rattle.vmar_unmap_laws.specs.Unmaps.{WholePages, Asked, Takes, UnmapAnswers, unissued, odd, dead, over, partly, short, frames, done, UnmapDone, UnmapsAll}
-use Rattle.vmar_unmap_laws.proofs.Left.{same-slot}
+use Rattle.vmar_unmap_laws.proofs.Left.{done-refused, same-slot}
 use Rattle.vmar_unmap_laws.proofs.Tests.{none-dead, some-partly, no-partly, partly-some, partly-none, short-is, short-of, short-none, no-short}
 use Rattle.vmar_unmap_laws.proofs.Unmap.{unmap-own, unmap-done}
 
@@ -35,9 +35,6 @@ data Ends (base : ℕ) (st : State) (id addr len : ℕ) : CutDone → Type 0 whe
   refusal : (why : Refusal) → UnmapAnswers st id addr len (result.Refused why) → Ends base st id addr len (refused st why)
   accepts : (t : State) → UnmapAnswers st id addr len result.Done → UnmapDone base st t (slotOf (st .space) id) addr (addr + len) → Same (st .space) (t .space) id
       → Ends base st id addr len (record { result = result.Done; state = t })
-
-done-refused : {A : Type 0} {why : Refusal} → _≡_ {A = CutResult} result.Done (result.Refused why) → A
-done-refused e = let z : _≡_ {A = ℕ} 0 1 = cc in absurd (omega arith)
 
 module _ (base : ℕ) (st : State) (R : Ready base st) (id addr len : ℕ) where
   abbrev s : Space
