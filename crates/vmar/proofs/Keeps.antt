@@ -7,6 +7,7 @@ use native.Mathlib.Omega.{arith}
 use Rattle.paging.specs.Choice.{Answered, refused, taken}
 use Rattle.refusal.specs.Reply.{Told}
 use Rattle.refusal.specs.declared.Refusal.{Refusal}
+use Rattle.refusal.specs.declared.Refusal.the-variants.{BadSpace, BadTable}
 use Rattle.space.specs.Passes.{Passes}
 use Rattle.space.specs.declared.Space.{Space}
 use Rattle.vmar_offset.specs.Offset.{slotOf}
@@ -16,6 +17,7 @@ use Rattle.vmar_allocate.specs.declared.Allocation.{Allocation}
 use Rattle.vmar_allocate.specs.declared.AllocateResult.{AllocateResult}
 use Rattle.vmar_allocate.specs.declared.AllocateResult.the-variants as allocate
 use Rattle.vmar_map.specs.Map.{MapDone, mapped}
+use Rattle.vmar_map.specs.Map as map′
 use Rattle.vmar_map.specs.declared.MapExtResult.{MapExtResult}
 use Rattle.vmar_map.specs.declared.MapExtResult.the-variants as map
 use Rattle.space.specs.Arrays.{Arrays}
@@ -35,13 +37,16 @@ use Rattle.vmar_unmap_laws.specs.Clears.{ClearDone}
 use Rattle.vmar_unmap_laws.proofs.Unmaps.{unmaps}
 use Rattle.vmar_unmap_laws.proofs.Clears.{clears}
 use Rattle.vmar_protect.specs.Protect.{lent, protected}
-use Rattle.vmar_protect.proofs.Laws.{protect-laws}
+use Rattle.vmar_protect_laws.specs.Laws.{Protects, call}
+use Rattle.vmar_protect.specs.declared.ProtectResult.{ProtectResult}
+use Rattle.vmar_protect.specs.declared.ProtectResult.the-variants as protect
+use Rattle.vmar_protect_laws.proofs.Laws.{protect-laws}
 use Rattle.vmar_overwrite.specs.Overwrite.{OverwriteDone, overwritten}
 use Rattle.vmar_overwrite_laws.specs.Overwrites as over
 use Rattle.vmar_overwrite_laws.proofs.Overwrites.{overwrites}
-use Rattle.vmar.specs.Calls.{Ordered, bad-space, bad-table, done, before, kept, protectedState, mapExt}
+use Rattle.vmar.specs.Calls.{ProtectedDone, MapFits, Ordered, bad-space, bad-table, done, before, kept, protectedState, besideTable, mapExt}
 use Rattle.vmar.specs.Laws.{Step, Keeps, Means, Through}
-use Rattle.vmar.proofs.Replies.{AllocateIs, allocate-is, MapIs, map-is, MapExtIs, map-ext-is, CutIs, cut-is}
+use Rattle.vmar.proofs.Replies.{AllocateIs, allocate-is, MapIs, map-is, MapExtIs, map-ext-is, CutIs, cut-is, ProtectIs, protect-is}
 
 -- nothing changes
 still : {s t : Space} {f g : List ℕ} → Arrays s → t ≡ s → g ≡ f → Step s t f g
@@ -223,8 +228,30 @@ module _ (s : Space) (f p : List ℕ) (base used id : ℕ) (arrays : Arrays s) w
       subst (λ (x : OverwriteDone). over.Accepted base (before s f p base used) (x .state) (slotOf s id) addr o vmo vmo-len at len permissions flags faults) (sym (a .2))
       (overwrites .holds base (before s f p base used) arrays (a .0) (a .1) id o vmo vmo-len at len permissions flags faults .accepted addr (a .3))
 
+-- without overwriting an outcome is that of `map`, beside the table
+map-ext-means : (s : Space) (f p : List ℕ) (base used id : ℕ) (o : Offset) (vmo vmo-len at len permissions flags : ℕ) (faults : Bool) (out : OverwriteDone)
+    → MapExtIs s f p base used id o vmo vmo-len at len permissions flags false faults out
+    → (d : MapDone) × MapFits s f p base used id o vmo vmo-len at len permissions flags faults d × (out ≡ besideTable (before s f p base used) d)
+map-ext-means s f p base used id o vmo vmo-len at len permissions flags faults out (bad-space n e) = (map′.refused s f BadSpace, bad-space n refl, e)
+map-ext-means s f p base used id o vmo vmo-len at len permissions flags faults out (bad-table u n e) = (map′.refused s f BadTable, bad-table u n refl, e)
+map-ext-means s f p base used id o vmo vmo-len at len permissions flags faults out (done u w e) =
+    (mapped s f id o vmo vmo-len at len permissions flags faults, done u w refl, e)
+
+protect-refused-protected : {A : Type 0} {why : Refusal} → _≡_ {A = ProtectResult} (protect.Refused why) protect.Protected → A
+protect-refused-protected e = let z : _≡_ {A = ℕ} 0 1 = cc in absurd (omega arith)
+
+protect-means : (s : Space) (f p : List ℕ) (base used id addr len access : ℕ) (out : ProtectedDone) → ProtectIs s f p base used id addr len access out
+    → out .done .result ≡ protect.Protected → (out ≡ kept s (call s f p base id addr len access)) × Protects s f p base used id addr len access
+protect-means s f p base used id addr len access out fits q =
+    let a = accepted-by (λ (x : ProtectedDone). x .done .result) protect.Protected protect-refused-protected protect-refused-protected fits q in
+    (a .2, protect-laws .protects s f p base used id addr len access (a .0) (a .1))
+
 pub means : Means
 means = record {
+  map-ext = λ s f p base used id o vmo vmo-len at len permissions flags faults out x.
+      map-ext-means s f p base used id o vmo vmo-len at len permissions flags faults out
+      (map-ext-is s f p base used id o vmo vmo-len at len permissions flags false faults out x);
+  protect = λ s f p base used id addr len access out x. protect-means s f p base used id addr len access out (protect-is s f p base used id addr len access out x);
   overwrite = λ s f p base used id o vmo vmo-len at len permissions flags faults out arrays x.
       over-means s f p base used id arrays o vmo vmo-len at len permissions flags faults out
       (map-ext-is s f p base used id o vmo vmo-len at len permissions flags true faults out x);

@@ -19,7 +19,7 @@ use Rattle.vmar_laws.proofs.Maps.{maps}
 use Rattle.vmar_overwrite.specs.Overwrite.{OverwriteDone}
 use Rattle.vmar_overwrite_laws.proofs.Overwrites.{overwrites}
 use Rattle.vmar_protect.specs.declared.ProtectResult.the-variants as protect
-use Rattle.vmar_protect.proofs.Laws.{protect-laws}
+use Rattle.vmar_protect_laws.proofs.Laws.{protect-laws}
 use Rattle.vmar_unmap.specs.Unmap.{CutDone, unmapped, clearedCall}
 use Rattle.vmar_unmap.specs.declared.CutResult.the-variants as cut
 use Rattle.vmar_unmap_laws.proofs.Unmaps.{unmaps}

@@ -1,9 +1,10 @@
 -- What is proved of the promises: no second outcome fits (proofs/Laws), a fresh space passes its check (proofs/Fresh), what a space keeps through calls and what an
--- accepted call does (proofs/Keeps).
-use Prim.Native.Nat.{ℕ, _+_}
+-- accepted call does (proofs/Keeps), what a call answers (proofs/Tells), and that a refusal changes nothing (proofs/Refuses).
+use Prim.Native.Nat.{ℕ, _+_, _/_, _≤_, _<_}
 use mathlib.Core.Path.{_≡_}
 use mathlib.Core.Bool.{Bool, true}
 use mathlib.Core.List.{List}
+use mathlib.Core.Logic.{_⊎_}
 use lib.ListN.{length, getD}
 use Rattle.space.specs.Passes.{Passes, RootRange}
 use Rattle.space.specs.declared.Space.{Space}
@@ -16,18 +17,29 @@ use Rattle.vmar_map.specs.declared.MapExtResult.the-variants as map
 use Rattle.space.specs.Arrays.{Arrays}
 use Rattle.vmar_overwrite.specs.Overwrite.{OverwriteDone}
 use Rattle.refusal.specs.declared.Refusal.{Refusal}
+use Rattle.refusal.specs.declared.Refusal.the-variants.{BadState, BadHandle}
+use Rattle.table.specs.Table.{queried}
+use Rattle.vmar_lookup.specs.Laws.{FlagsAnswers, ofPage}
+use Rattle.vmar_lookup.specs.Lookup.{answered}
+use Rattle.vmar_lookup.specs.declared.FlagsResult.{FlagsResult}
+use Rattle.vmar_lookup.specs.declared.FlagsResult.the-variants as flags
+use Rattle.vmar_user_range.specs.Laws.{UsableRange}
+use Rattle.vmar_user_range.specs.declared.UserRangeResult.the-variants as user
+use Rattle.vmar_protect_laws.specs.Answers.{ProtectAnswers}
+use Rattle.vmar_protect_laws.specs.Laws.{Protects, call}
+use Rattle.vmar_overwrite_laws.specs.Answers.{OverwriteAnswers}
 use Rattle.vmar_protect.specs.declared.ProtectResult.the-variants as protect
 use Rattle.vmar_unmap.specs.Unmap.{State, CutDone}
 use Rattle.vmar_unmap.specs.declared.CutResult.the-variants as cut
-use Rattle.vmar_unmap_laws.specs.Unmaps.{UnmapDone}
-use Rattle.vmar_unmap_laws.specs.Clears.{ClearDone}
+use Rattle.vmar_unmap_laws.specs.Unmaps.{UnmapAnswers, UnmapDone}
+use Rattle.vmar_unmap_laws.specs.Clears.{ClearAnswers, ClearDone}
 use Rattle.vmar_overwrite_laws.specs.Overwrites as over
 use Rattle.form.specs.Form.{Good}
 use Rattle.vmar_laws.specs.Later.{Later}
 use Rattle.vmar_laws.specs.Allocates as allocates
 use Rattle.vmar_laws.specs.Maps as maps
 use Rattle.vmar_root.specs.Root.{newSpace}
-use Rattle.vmar.specs.Calls.{AllocateFits, MapFits, FlagsFit, UserRangeFits, VaddrFits, before, MapExtFits, CutFits, UnmapFits, ClearFits, ProtectFits, protectedState, FlagsDone, UserRangeDone, ProtectedDone}
+use Rattle.vmar.specs.Calls.{AllocateFits, MapFits, FlagsFit, UserRangeFits, VaddrFits, before, MapExtFits, CutFits, UnmapFits, ClearFits, ProtectFits, protectedState, FlagsDone, UserRangeDone, ProtectedDone, besideTable, kept}
 
 -- "a proof shows that no second answer fits"
 pub record Once : Type 0 where
@@ -107,11 +119,45 @@ pub record Means : Type 0 where
   pub map : (s : Space) (f p : List ℕ) (base used id : ℕ) (o : Offset) (vmo vmo-len at len permissions flags : ℕ) (faults : Bool) (out : MapDone) → Arrays s
       → MapFits s f p base used id o vmo vmo-len at len permissions flags faults out → (addr : ℕ) → out .result ≡ map.Mapped addr
       → maps.Accepted s (out .space) f (out .flags) (slotOf s id) addr o vmo vmo-len at len permissions flags faults
+  -- map_ext that does not: as `map`, and the table stays
+  pub map-ext : (s : Space) (f p : List ℕ) (base used id : ℕ) (o : Offset) (vmo vmo-len at len permissions flags : ℕ) (faults : Bool) (out : OverwriteDone)
+      → MapExtFits s f p base used id o vmo vmo-len at len permissions flags false faults out
+      → (d : MapDone) × MapFits s f p base used id o vmo vmo-len at len permissions flags faults d × (out ≡ besideTable (before s f p base used) d)
+  -- protect, by what it does on a space that passes and a good pool: vmar_protect/specs/Laws
+  pub protect : (s : Space) (f p : List ℕ) (base used id addr len access : ℕ) (out : ProtectedDone) → ProtectFits s f p base used id addr len access out
+      → out .done .result ≡ protect.Protected → (out ≡ kept s (call s f p base id addr len access)) × Protects s f p base used id addr len access
   -- destroy and clear
   pub clear : (s : Space) (f p : List ℕ) (base used id : ℕ) (itself : Bool) (out : CutDone) → Arrays s → ClearFits s f p base used id itself out → out .result ≡ cut.Done
       → ClearDone base (before s f p base used) (out .state) (slotOf s id) itself
   pub unmap : (s : Space) (f p : List ℕ) (base used id addr len : ℕ) (out : CutDone) → Arrays s → UnmapFits s f p base used id addr len out → out .result ≡ cut.Done
       → UnmapDone base (before s f p base used) (out .state) (slotOf s id) addr (addr + len)
+
+-- what a lookup by an id answers: 11, then "On a dead region lookups give 5", then what a lookup in the region does
+pub data LookupAnswers (s : Space) (id x : ℕ) (value : ℕ → FlagsResult) (y : FlagsResult) : Type 0 where
+  unissued : s .nextid ≤ id → y ≡ flags.Refused BadHandle → LookupAnswers s id x value y
+  dead : id < s .nextid → slotOf s id ≡ 32 → y ≡ flags.Refused BadState → LookupAnswers s id x value y
+  alive : id < s .nextid → slotOf s id < 32 → FlagsAnswers s x (slotOf s id) value y → LookupAnswers s id x value y
+
+-- what a call answers on a space that passes its check and a good pool: each refusal exactly when it is given, and success
+pub record Tells : Type 0 where
+  pub mapping-flags : (s : Space) (f : List ℕ) (id x : ℕ) (out : FlagsDone) → Passes s f → FlagsFit s f id x out → LookupAnswers s id x (ofPage s f x) (out .result)
+  pub vaddr-flags : (s : Space) (f p : List ℕ) (base used id x : ℕ) (out : FlagsDone) → Passes s f → Good p base used → VaddrFits s f p base used id x out
+      → LookupAnswers s id x (λ m. answered (queried p (base / 4096) x)) (out .result)
+  -- success exactly when the range is empty or usable
+  pub user-range : (s : Space) (f : List ℕ) (id addr len access : ℕ) (out : UserRangeDone) → Passes s f → UserRangeFits s f id addr len access out → out .result ≡ user.Allowed
+      → (id < s .nextid) × ((len ≡ 0) ⊎ UsableRange s f id addr len access)
+  pub user-range-of : (s : Space) (f : List ℕ) (id addr len access : ℕ) (out : UserRangeDone) → Passes s f → UserRangeFits s f id addr len access out → id < s .nextid
+      → (len ≡ 0) ⊎ UsableRange s f id addr len access → out .result ≡ user.Allowed
+  pub overwrite : (s : Space) (f p : List ℕ) (base used id : ℕ) (o : Offset) (vmo vmo-len at len permissions flags : ℕ) (faults : Bool) (out : OverwriteDone) → Arrays s
+      → Passes s f → Good p base used → MapExtFits s f p base used id o vmo vmo-len at len permissions flags true faults out
+      → OverwriteAnswers (before s f p base used) id o vmo-len at len permissions flags faults (out .result)
+  pub unmap : (s : Space) (f p : List ℕ) (base used id addr len : ℕ) (out : CutDone) → Arrays s → Passes s f → Good p base used → UnmapFits s f p base used id addr len out
+      → UnmapAnswers (before s f p base used) id addr len (out .result)
+  -- destroy and clear
+  pub clear : (s : Space) (f p : List ℕ) (base used id : ℕ) (itself : Bool) (out : CutDone) → Arrays s → Passes s f → Good p base used
+      → ClearFits s f p base used id itself out → ClearAnswers (before s f p base used) id (out .result)
+  pub protect : (s : Space) (f p : List ℕ) (base used id addr len access : ℕ) (out : ProtectedDone) → Passes s f → Good p base used
+      → ProtectFits s f p base used id addr len access out → ProtectAnswers s id addr len access (out .done .result)
 
 -- "A refusal gives value 0 and changes nothing anywhere", whatever the space, the flags and the pool are; a lookup changes nothing in any case
 pub record Refuses : Type 0 where

@@ -2,9 +2,3 @@ pub mod Parts
 pub mod Rights
 pub mod Buffers
 pub mod Calls
-pub mod Pages
-pub mod Covers
-pub mod Answers
-pub mod Tables
-pub mod Leaves
-pub mod Laws

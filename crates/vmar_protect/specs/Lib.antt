@@ -1,3 +1,1 @@
 pub mod Protect
-pub mod Answers
-pub mod Laws

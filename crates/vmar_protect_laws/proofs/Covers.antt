@@ -19,9 +19,9 @@ use Rattle.space.specs.declared.Mapping.{Mapping}
 use Rattle.space.specs.declared.Space.{Space}
 use Rattle.space.proofs.Facts.{mapping-place}
 use Rattle.space.proofs.Ranges as ranges
 use Rattle.vmar_protect.specs.Protect.{touching, partFrom, partTo, partIn, total}
-use Rattle.vmar_protect.specs.Answers.{HeldIn}
+use Rattle.vmar_protect_laws.specs.Answers.{HeldIn}
 use Rattle.vmar_protect.proofs.Parts.{touch-means, touch-of, from-is, to-is, part-there, part-none}
 
 -- a part by where the mapping lies
 part-of : (m : Mapping) (r a b : ℕ) → a ≤ b → m .region ≡ r → partIn m r a b ≡ partTo m b - partFrom m a

@@ -33,7 +33,7 @@ use Rattle.table.proofs.Laws.{rewritten}
 use Rattle.table_laws.specs.Effects.{showsIn, Rewrites}
 use Rattle.table_laws.proofs.Effects.{shown-at}
 use Rattle.table_laws.proofs.Writes.{rewrites}
-use Rattle.vmar_protect.specs.Laws.{Over}
+use Rattle.vmar_protect_laws.specs.Laws.{Over}
 
 -- a leaf whose flags are such as Q says
 pub record Given (Q : ℕ → Type 0) (y : View) : Type 0 where

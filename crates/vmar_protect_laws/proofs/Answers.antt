@@ -19,14 +19,14 @@ use Rattle.space.specs.declared.Space.{Space}
 use Rattle.space.proofs.Facts.{region-place, mapping-place}
 use Rattle.vmar_offset.specs.Offset.{slotOf}
 use Rattle.vmar_offset.proofs.Found.{slot-live}
 use Rattle.vmar_protect.specs.Protect.{touches, touchesChild, childTouched, touching, total, denies, deniesAt, Lent, mappingsDone, ProtectDone, refused, inRegion, protected}
 use Rattle.vmar_protect.specs.Protect as protect
-use Rattle.vmar_protect.specs.Answers.{ChildTouches, Touches, HeldIn, WholePages, Asked, Allowed, ProtectAnswers, unissued, unknown, odd, dead, over, touched, uncovered, denied, done}
+use Rattle.vmar_protect_laws.specs.Answers.{ChildTouches, Touches, HeldIn, WholePages, Asked, Allowed, ProtectAnswers, unissued, unknown, odd, dead, over, touched, uncovered, denied, done}
 use Rattle.vmar_protect.specs.declared.ProtectResult.{ProtectResult}
 use Rattle.vmar_protect.specs.declared.ProtectResult.the-variants as result
 use Rattle.vmar_protect.proofs.Calls as calls
 use Rattle.vmar_protect.proofs.Parts.{touch-means, touch-of, denies-there, denies-none}
-use Rattle.vmar_protect.proofs.Covers.{covers, filled, gap?}
+use Rattle.vmar_protect_laws.proofs.Covers.{covers, filled, gap?}
 
 -- a scan where each index fails
 all-fail : (p : ℕ → Bool) (n k i : ℕ) → n ≤ i + k → ((j : ℕ) → j < n → p j ≡ false) → some p i n ≡ false

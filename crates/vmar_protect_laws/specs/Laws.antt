@@ -21,10 +21,10 @@ use Rattle.table.specs.declared.QueryResult.{QueryResult}
 use Rattle.table.specs.declared.QueryResult.the-variants as query
 use Rattle.table_laws.specs.Effects.{showsIn, translatesIn}
 use Rattle.vmar_offset.specs.Offset.{slotOf}
 use Rattle.vmar_protect.specs.Protect.{withRights, lent, ProtectDone, protected}
-use Rattle.vmar_protect.specs.Answers.{Asked, Allowed, ProtectAnswers}
+use Rattle.vmar_protect_laws.specs.Answers.{Asked, Allowed, ProtectAnswers}
 use Rattle.vmar_protect.specs.declared.ProtectResult.{ProtectResult}
 use Rattle.vmar_protect.specs.declared.ProtectResult.the-variants as result
 
 -- known page flags with the rights of `access`: exactly those, and their own USER and HUGE_PAGE
 pub record Righted (old access : ℕ) : Type 0 where

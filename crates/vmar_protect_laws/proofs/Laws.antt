@@ -30,17 +30,17 @@ use Rattle.table.proofs.Laws.{shown}
 use Rattle.table_laws.specs.Effects.{showsIn, translatesIn}
 use Rattle.table_laws.proofs.Effects.{effects, shown-at}
 use Rattle.vmar_offset.specs.Offset.{slotOf}
 use Rattle.vmar_protect.specs.Protect.{withRights, Lent, lent, mappingsDone, ProtectDone, refused}
-use Rattle.vmar_protect.specs.Laws.{pageAddr, InRange, SameFrame, none, frame, Over, LastOver, call, Protects, ProtectLaws}
-use Rattle.vmar_protect.specs.Answers.{WholePages, ProtectAnswers}
+use Rattle.vmar_protect_laws.specs.Laws.{pageAddr, InRange, SameFrame, none, frame, Over, LastOver, call, Protects, ProtectLaws}
+use Rattle.vmar_protect_laws.specs.Answers.{WholePages, ProtectAnswers}
 use Rattle.vmar_protect.specs.declared.ProtectResult.{ProtectResult}
 use Rattle.vmar_protect.specs.declared.ProtectResult.the-variants as result
-use Rattle.vmar_protect.proofs.Rights as new
+use Rattle.vmar_protect_laws.proofs.Righted as new
 use Rattle.vmar_protect.proofs.Buffers.{mappings-kept}
-use Rattle.vmar_protect.proofs.Pages.{places-stay, places-change, in-range?}
-use Rattle.vmar_protect.proofs.Answers as answer
-use Rattle.vmar_protect.proofs.Tables.{Like, same, leaves, level-back, Given, Alike, near-shows}
-use Rattle.vmar_protect.proofs.Leaves.{Page, Any, places-alike, Under, places-last, last-over}
+use Rattle.vmar_protect_laws.proofs.Pages.{places-stay, places-change, in-range?}
+use Rattle.vmar_protect_laws.proofs.Answers as answer
+use Rattle.vmar_protect_laws.proofs.Tables.{Like, same, leaves, level-back, Given, Alike, near-shows}
+use Rattle.vmar_protect_laws.proofs.Leaves.{Page, Any, places-alike, Under, places-last, last-over}
 
 -- what an address translates to, by the leaf that it shows
 leaf-to : (p : List ℕ) (base x l w : ℕ) → showsIn p base x ≡ view l w → x86 .kind l w ≡ leaf → translatesIn p base x ≡ to (x86 .addr w + x % span l) (x86 .flags w)

@@ -18,12 +18,12 @@ use Rattle.space.specs.Passes.{pageAt, Passes, RootRange}
 use Rattle.space.specs.declared.Mapping.{Mapping}
 use Rattle.space.specs.declared.Space.{Space}
 use Rattle.space.proofs.Facts.{region-place, mapping-place, child-in, mapping-in}
 use Rattle.vmar_protect.specs.Protect.{withRights, Lent, lent, pageDone, pagesDone, touching, changed, mappingDone, mappingsDone}
-use Rattle.vmar_protect.specs.Laws.{pageAddr, InRange, Over, LastOver}
-use Rattle.vmar_protect.proofs.Rights.{alike-now}
+use Rattle.vmar_protect_laws.specs.Laws.{pageAddr, InRange, Over, LastOver}
+use Rattle.vmar_protect_laws.proofs.Righted.{alike-now}
 use Rattle.vmar_protect.proofs.Buffers.{pages-kept, mappings-kept}
-use Rattle.vmar_protect.proofs.Pages.{pages-stay, few, in-range, range-touches, among, places-stay, in-range?}
-use Rattle.vmar_protect.proofs.Tables.{Given, Like, same, given-stays, carried, level-back, Step, step, Alike, alike-none, alike-step, alike-then, alike-wider}
+use Rattle.vmar_protect_laws.proofs.Pages.{pages-stay, few, in-range, range-touches, among, places-stay, in-range?}
+use Rattle.vmar_protect_laws.proofs.Tables.{Given, Like, same, given-stays, carried, level-back, Step, step, Alike, alike-none, alike-step, alike-then, alike-wider}
 
 -- a root's range lies in one half
 abbrev Half : ℕ → ℕ → Type 0

@@ -14,10 +14,10 @@ use Rattle.space.specs.Passes.{pageAt, Passes, Paged}
 use Rattle.space.specs.declared.Mapping.{Mapping}
 use Rattle.space.specs.declared.Space.{Space}
 use Rattle.space.proofs.Facts.{mapping-place}
 use Rattle.vmar_protect.specs.Protect.{withRights, Lent, pageDone, pagesDone, touching, partFrom, partTo, changed, mappingDone, mappingsDone}
-use Rattle.vmar_protect.specs.Laws.{pageAddr, InRange}
+use Rattle.vmar_protect_laws.specs.Laws.{pageAddr, InRange}
 use Rattle.vmar_protect.proofs.Parts.{touch-means, touch-of, from-is, to-is, part-runs, changed-in}
 use Rattle.vmar_protect.proofs.Buffers.{pages-kept, mappings-kept}
 
 -- page k of slot i is one of the n pages from `first` on of slot j
 abbrev pub Among : ℕ → ℕ → ℕ → ℕ → ℕ → Type 0
