@@ -2,7 +2,7 @@
 -- accepted call does (proofs/Keeps), what a call answers (proofs/Tells), and that a refusal changes nothing (proofs/Refuses).
 use Prim.Native.Nat.{ℕ, _+_, _/_, _≤_, _<_}
 use mathlib.Core.Path.{_≡_}
-use mathlib.Core.Bool.{Bool, true}
+use mathlib.Core.Bool.{Bool, true, false}
 use mathlib.Core.List.{List}
 use mathlib.Core.Logic.{_⊎_}
 use lib.ListN.{length, getD}

@@ -4,6 +4,7 @@ use common::defs::MMUFlags;
 use common::defs::VirtAddr;
 use common::defs::VmarFlags;
 use refusal::Refusal;
+use space::NO_REGION;
 use space::Space;
 use vmar_allocate::AllocateResult;
 use vmar_lookup::FlagsResult;
