@@ -17,6 +17,12 @@ pub const FLAGS: usize = 32768;
 // The parent of the root.
 pub const NO_REGION: usize = 32;
 
+// The last address.
+pub const LAST: u64 = 0xffff_ffff_ffff_ffff;
+
+// Bytes of the longest mapping.
+pub const MOST: u64 = 0x20_0000;
+
 // The ranges that a root may have.
 pub const USER_ASPACE_BASE: u64 = 0x20_0000;
 

@@ -4,6 +4,7 @@ use common::defs::MMUFlags;
 use common::defs::VmarFlags;
 use space::KERNEL_ASPACE_BASE;
 use space::KERNEL_ASPACE_SIZE;
+use space::LAST;
 use space::MAPPINGS;
 use space::Mapping;
 use space::NO_REGION;
@@ -19,8 +20,6 @@ ghost use Rattle.paging.specs.Choice.{Decided};
 ghost use Rattle.space.specs.Space.{blankRegion, blankMapping};
 ghost use Rattle.space.specs.Passes.{In, RootRange};
 ghost use Rattle.space_slots.specs.Slots.{Places, GoodRegion, RegionSlot, RegionSlots, TreePlace, TreePlaces, GoodMapping, MappingSlot, MappingSlots};
-
-const LAST: u64 = 0xffff_ffff_ffff_ffff;
 
 // Whether x stands among the first n places.
 fn has(list: &[usize], n: usize, x: usize) -> bool

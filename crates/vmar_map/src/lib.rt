@@ -3,7 +3,9 @@ use common::defs::MMUFlags;
 use common::defs::PAGE_SIZE;
 use common::defs::VirtAddr;
 use refusal::Refusal;
+use space::LAST;
 use space::MAPPINGS;
+use space::MOST;
 use space::Mapping;
 use space::NO_REGION;
 use space::Space;
@@ -18,11 +20,6 @@ ghost use Rattle.common.specs.Flags.{knownPage};
 ghost use Rattle.space.specs.Space.{regionAt};
 ghost use Rattle.space.specs.Passes.{Passes, LiveIn};
 ghost use Rattle.vmar_map.specs.Map.{done, filled, tested, placed, inRegion, mapped};
-
-const LAST: u64 = 0xffff_ffff_ffff_ffff;
-
-// The most that a mapping holds: 512 pages.
-const MOST: u64 = 0x20_0000;
 
 // READ, WRITE and EXECUTE.
 const RXW: u64 = 0x1c;

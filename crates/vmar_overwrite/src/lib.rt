@@ -5,6 +5,7 @@ use common::defs::PAGE_SIZE;
 use common::defs::VirtAddr;
 use refusal::Refusal;
 use space::MAPPINGS;
+use space::MOST;
 use space::Mapping;
 use space::NO_REGION;
 use space::Space;
@@ -31,9 +32,6 @@ ghost use Rattle.vmar_map.specs.Map.{filled};
 ghost use Rattle.vmar_map.specs.declared.MapExtResult.the-variants as result;
 ghost use Rattle.vmar_unmap.specs.declared.CutResult.the-variants as cut;
 ghost use Rattle.vmar_overwrite.specs.Overwrite.{done, newSlot, isShort, afterCut, replaced, overlaid, atOffset, inRegion, overwritten};
-
-// The most that a mapping holds: 512 pages.
-const MOST: u64 = 0x20_0000;
 
 // The answer of a call, the space and the frames in use.
 pub struct OverwriteOutcome {

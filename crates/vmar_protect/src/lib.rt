@@ -3,6 +3,7 @@ use common::defs::MMUFlags;
 use common::defs::PAGE_SIZE;
 use common::defs::VirtAddr;
 use refusal::Refusal;
+use space::LAST;
 use space::Mapping;
 use space::NO_REGION;
 use space::Space;
@@ -15,8 +16,6 @@ ghost use lib.ListN.{length};
 ghost use Rattle.form.specs.Form.{Good};
 ghost use Rattle.space.specs.Passes.{Passes, Paged, LiveIn};
 ghost use Rattle.vmar_protect.specs.Protect.{touches, childTouched, partFrom, partTo, changed, partIn, total, denies, denied, withRights, lent, pageDone, pagesDone, mappingDone, mappingsDone, done, inRegion, protected};
-
-const LAST: u64 = 0xffff_ffff_ffff_ffff;
 
 // What stays of page flags when READ, WRITE and EXECUTE are taken away.
 const KEPT: u8 = 0xe3;

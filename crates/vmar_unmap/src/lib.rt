@@ -2,6 +2,7 @@
 // table is cut in the Rust's order, and the page flags and the space follow.
 use common::defs::VirtAddr;
 use refusal::Refusal;
+use space::LAST;
 use space::MAPPINGS;
 use space::NO_REGION;
 use space::REGIONS;
@@ -22,8 +23,6 @@ ghost use Rattle.vmar_cuts.specs.Cuts.{PageRange, unmapCuts, destroyCuts};
 ghost use Rattle.vmar_prune.specs.Prune.{splitSlot, cutSpace, cutFlags};
 ghost use Rattle.vmar_unmap.specs.declared.CutResult.the-variants as result;
 ghost use Rattle.vmar_unmap.specs.Unmap.{done, cutState, isPartly, partlyAt, hasDead, lacksSlot, cutRange, inRegion, unmapped, goingWith, cleared, clearedCall};
-
-const LAST: u64 = 0xffff_ffff_ffff_ffff;
 
 pub enum CutResult {
     Done,

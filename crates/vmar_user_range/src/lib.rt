@@ -4,6 +4,7 @@ use common::defs::MMUFlags;
 use common::defs::PAGE_SIZE;
 use common::defs::VirtAddr;
 use refusal::Refusal;
+use space::LAST;
 use space::MAPPINGS;
 use space::Mapping;
 use space::NO_REGION;
@@ -16,8 +17,6 @@ ghost use Rattle.common.specs.Flags.{knownPage};
 ghost use Rattle.paging.specs.Choice.{Decided};
 ghost use Rattle.space.specs.Passes.{Passes, LiveIn};
 ghost use Rattle.vmar_user_range.specs.UserRange.{isHeld, startOf, AllGrant, PageOf, pagesIn, Tested, checked, userRange};
-
-const LAST: u64 = 0xffff_ffff_ffff_ffff;
 
 pub enum UserRangeResult {
     Allowed,
