@@ -35,6 +35,7 @@ use Rattle.vmar_laws.proofs.Lists.{last-place, early-place}
 use Rattle.vmar_laws.proofs.Slots.{Fills, here, there}
 use Rattle.vmar_laws.proofs.Later.{later-none, later-region, found-region}
 use Rattle.vmar_laws.proofs.Search.{free-in, hinted, unhinted, no-memory}
+use Rattle.vmar_laws.proofs.Answers.{allocate-answers, allocate-only}
 use Rattle.vmar_laws.proofs.Child.{Born, child-passes, child-arrays}
 
 -- what an accepted call has shown
@@ -188,5 +189,7 @@ allocates = record {
     nowhere = nowhere-free s id o len flags align (ends s id o len flags align);
     accepted = accepts-child s id o len flags align pages arrays p (ends s id o len flags align);
     later = later-all s id o len flags align pages arrays p (ends s id o len flags align);
+    answers = allocate-answers s id o len flags align;
+    only = allocate-only s id o len flags align;
   };
 }

@@ -3,6 +3,7 @@ pub mod Slots
 pub mod Ranges
 pub mod Later
 pub mod Search
+pub mod Answers
 pub mod Child
 pub mod Allocates
 pub mod Pages

@@ -34,11 +34,13 @@ use Rattle.vmar_map.proofs.Maps.{odd-offset, odd-length, over, denied, faulting
 use Rattle.space.specs.Arrays.{Arrays}
 use Rattle.vmar_laws.specs.Later.{Later}
 use Rattle.vmar_laws.specs.Search.{FreeIn, NoFit}
-use Rattle.vmar_laws.specs.Maps.{Fine, NewMapping, PagesGiven, Accepted, MapsAll}
+use Rattle.vmar_laws.specs.Answers.{Fine}
+use Rattle.vmar_laws.specs.Maps.{NewMapping, PagesGiven, Accepted, MapsAll}
 use Rattle.vmar_laws.proofs.Lists.{last-place, early-place}
 use Rattle.vmar_laws.proofs.Slots.{Fills, here, there}
 use Rattle.vmar_laws.proofs.Later.{later-none, later-mapping}
 use Rattle.vmar_laws.proofs.Search.{free-in, hinted, unhinted, no-memory}
+use Rattle.vmar_laws.proofs.Answers.{map-answers, map-only}
 use Rattle.vmar_laws.proofs.Pages.{filled-length, pages-given}
 use Rattle.vmar_laws.proofs.Mapping.{Born, zeros, mapping-passes, mapping-arrays}
 
@@ -280,5 +282,7 @@ maps = record {
     nowhere = nowhere-free s f id o vmo vmo-len at len permissions flags faults out;
     accepted = accepts-mapping s f id o vmo vmo-len at len permissions flags faults arrays passes out;
     later = later-all s f id o vmo vmo-len at len permissions flags faults out;
+    answers = map-answers s f id o vmo vmo-len at len permissions flags faults;
+    only = map-only s f id o vmo vmo-len at len permissions flags faults;
   };
 }

@@ -1,13 +1,13 @@
 -- What an offset that was found tells: where it comes from, and what is free there.
-use Prim.Native.Nat.{ℕ, _+_, _≤_, _<_}
+use Prim.Native.Nat.{ℕ, zero, suc, _+_, _-_, _≤_, _<_}
 use mathlib.Core.Path.{_≡_, refl, sym, _∙_, ap, subst}
-use mathlib.Core.Bool.{Bool, true, false}
+use mathlib.Core.Bool.{Bool, true, false, not}
 use mathlib.Core.Logic.{_⊎_, inl, inr, ⊎-elim}
 use native.Mathlib.Omega.{arith}
-use lib.Dec.{ltb}
-use borrow.Author.Tests.{leb-true, ltb-true, ltb-false, not-true, eq-eqb}
+use lib.Dec.{ltb, eqb}
+use borrow.Author.Tests.{le-leb, leb-true, ltb-true, ltb-false, not-true, eq-eqb, eqb-true}
 use Rattle.paging.proofs.Cases.{no-truth, below?, clash}
-use Rattle.scan.specs.Scan.{first, some}
+use Rattle.scan.specs.Scan.{first, someOf, some}
 use Rattle.scan.proofs.Scans.{tell, first-passes, before-first, none-passes}
 use Rattle.vm.specs.Align.{multiple}
 use Rattle.refusal.specs.declared.Refusal.{Refusal}
@@ -17,7 +17,7 @@ use Rattle.space.specs.Space.{regionAt, mappingAt, isRegion}
 use Rattle.space.specs.declared.Region.{Region}
 use Rattle.space.specs.declared.Mapping.{Mapping}
 use Rattle.space.specs.declared.Space.{Space}
-use Rattle.space.proofs.Ranges.{inner-of}
+use Rattle.space.proofs.Ranges.{inner, inner-of}
 use Rattle.vmar_offset.specs.Offset.{childMeets, mappingMeets, meetsChild, meetsMapping, testMap, takesChild, takesMapping, childEnd, mappingEnd, findFreeArea, found, determineOffset}
 use Rattle.vmar_offset.specs.declared.Offset.{Offset}
 use Rattle.vmar_offset.specs.declared.Offset.the-variants as offset
@@ -59,6 +59,39 @@ module _ (s : Space) (r off len : ℕ) (t : testMap s r off len ≡ true) where
         children = λ j h. apart-child (regionAt s j) r _ _ (none-passes (meetsChild s r (regionAt s r .addr + off) len) 0 32 j children-off (omega arith) h);
         mappings = λ j h. apart-mapping (mappingAt s j) r _ _ (none-passes (meetsMapping s r (regionAt s r .addr + off) len) 0 64 j mappings-off (omega arith) h);
       }
+
+-- and what lies so passes the test
+meets-none : (g : Region) (r b n : ℕ) → (g .live ≡ true → g .parent ≡ r → overlap (g .addr) (g .size) b n ≡ false) → childMeets g r b n ≡ false
+unfolding childMeets
+meets-none g r b n f =
+    ⊎-elim
+    (λ (l : g .live ≡ true). ⊎-elim (λ (q : eqb (g .parent) r ≡ true). rw (l, q) (f l (eqb-true _ _ q))) (λ (q : eqb (g .parent) r ≡ false). rw (l, q)) (tell (eqb (g .parent) r)))
+    (λ (l : g .live ≡ false). rw l)
+    (tell (g .live))
+
+none-meets : (m : Mapping) (r b n : ℕ) → (m .live ≡ true → m .region ≡ r → overlap (m .addr) (m .size) b n ≡ false) → mappingMeets m r b n ≡ false
+unfolding mappingMeets
+none-meets m r b n f =
+    ⊎-elim
+    (λ (l : m .live ≡ true). ⊎-elim (λ (q : eqb (m .region) r ≡ true). rw (l, q) (f l (eqb-true _ _ q))) (λ (q : eqb (m .region) r ≡ false). rw (l, q)) (tell (eqb (m .region) r)))
+    (λ (l : m .live ≡ false). rw l)
+    (tell (m .live))
+
+-- where each fails, none passes
+all-fail : (p : ℕ → Bool) (k i : ℕ) → ((j : ℕ) → j < i + k → p j ≡ false) → someOf p i k ≡ false
+unfolding someOf
+all-fail p zero i f = refl
+all-fail p (suc k) i f = rw (f i (omega arith)) (all-fail p k (i + 1) (λ j l. f j (omega arith)))
+
+none-pass : (p : ℕ → Bool) (n : ℕ) → ((j : ℕ) → j < n → p j ≡ false) → some p 0 n ≡ false
+unfolding some
+none-pass p n f = all-fail p (n - 0) 0 (λ j l. f j (omega arith))
+
+pub free-tests : (s : Space) (r off len : ℕ) → FreeIn s r (regionAt s r .addr + off) len → testMap s r off len ≡ true
+free-tests s r off len f =
+    let z = inner _ _ _ _ (f .inner) .1 in
+    off-children s r off len (le-leb (off + len) (regionAt s r .size) (omega arith)) (none-pass _ 32 (λ j l. meets-none (regionAt s j) r _ _ (f .children j l)))
+    ∙ ap not (none-pass _ 64 (λ j l. none-meets (mappingAt s j) r _ _ (f .mappings j l)))
 
 same-ok : {a b : ℕ} → _≡_ {A = OffsetResult} (result.Ok a) (result.Ok b) → a ≡ b
 same-ok e = cc
@@ -194,6 +227,28 @@ module _ (s : Space) (r len align : ℕ) where
   none-fits _ n (fit.start t) = clash (testMap s r 0 len) t (n .children .start)
   none-fits _ n (fit.child k l m u) = clash (takesChild s r len align k) u (n .children .before k l)
   none-fits _ n (fit.mapping k l m q u) = clash (takesMapping s r len align k) u (n .mappings k l)
+
+  -- what the search finds, by what fits
+  by-fit : {a : Offset} (off : ℕ) → Searched s r len align a → FirstFit s r len align off → result.Ok off ≡ found a
+  by-fit off (at o w) f = ap (λ (x : ℕ). result.Ok x) (only off o f w)
+  by-fit off (none w) f = absurd (none-fits off w f)
+
+  by-none : {a : Offset} → Searched s r len align a → NoFit s r len align → result.Refused NoMemory ≡ found a
+  by-none (at o w) n = absurd (none-fits o n w)
+  by-none (none w) n = refl
+
+  one-or-none : {a : Offset} → Searched s r len align a → ((off : ℕ) × FirstFit s r len align off) ⊎ NoFit s r len align
+  one-or-none (at o w) = inl (o, w)
+  one-or-none (none w) = inr w
+
+  pub fit-found : (off : ℕ) → FirstFit s r len align off → result.Ok off ≡ found (findFreeArea s r len align)
+  fit-found off f = by-fit off (search-all s r len align) f
+
+  pub none-found : NoFit s r len align → result.Refused NoMemory ≡ found (findFreeArea s r len align)
+  none-found n = by-none (search-all s r len align) n
+
+  pub fits? : ((off : ℕ) × FirstFit s r len align off) ⊎ NoFit s r len align
+  fits? = one-or-none (search-all s r len align)
 
 pub one-fit : OneFit
 one-fit = record { only = only; none = none-fits }

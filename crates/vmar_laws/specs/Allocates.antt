@@ -15,10 +15,12 @@ use Rattle.vmar_offset.specs.Offset.{slotOf, freeRegion}
 use Rattle.vmar_offset.specs.declared.Offset.{Offset}
 use Rattle.vmar_offset.specs.declared.Offset.the-variants as offset
 use Rattle.vmar_allocate.specs.Allocate.{allocated}
+use Rattle.vmar_allocate.specs.declared.AllocateResult.{AllocateResult}
 use Rattle.vmar_allocate.specs.declared.AllocateResult.the-variants as result
 use Rattle.space.specs.Arrays.{Arrays}
 use Rattle.vmar_laws.specs.Later.{Later}
 use Rattle.vmar_laws.specs.Search.{FreeIn, FirstFit, NoFit}
+use Rattle.vmar_laws.specs.Answers.{AllocateAnswers}
 
 -- t has in slot i a new child of the region in slot r of s, of this length and these flags
 pub record NewChild (s t : Space) (r i len f : ℕ) : Type 0 where
@@ -71,6 +73,9 @@ pub record Allocates (s : Space) (pages : List ℕ) (id : ℕ) (o : Offset) (len
       → Accepted s (allocated s id o len flags align .space) pages (slotOf s id) n o len flags align
   -- ids "never come back", refused or not
   pub later : Later s (allocated s id o len flags align .space)
+  -- what the call answers, and no second answer fits
+  pub answers : AllocateAnswers s id o len flags align (allocated s id o len flags align .result)
+  pub only : (x : AllocateResult) → AllocateAnswers s id o len flags align x → x ≡ allocated s id o len flags align .result
 
 pub record AllocatesAll : Type 0 where
   pub holds : (s : Space) (pages : List ℕ) → Arrays s → Passes s pages → (id : ℕ) (o : Offset) (len flags align : ℕ) → Allocates s pages id o len flags align

@@ -1,4 +1,5 @@
 pub mod Later
 pub mod Search
+pub mod Answers
 pub mod Allocates
 pub mod Maps

@@ -7,39 +7,40 @@ use native.Mathlib.Omega.{arith}
 use lib.Dec.{leb}
 use borrow.Author.Tests.{lt-ltb, le-ltb, le-leb, lt-leb, leb-true, eq-eqb, ne-eqb, eqb-true}
 use Rattle.paging.proofs.Cases.{same?, below?, clash}
-use Rattle.common.specs.Flags.{knownPage, grants, rights}
+use Rattle.common.specs.Flags.{knownPage}
 use Rattle.scan.specs.Scan.{some}
 use Rattle.scan.proofs.Scans.{tell, first-most}
 use Rattle.vm.specs.Align.{multiple}
-use Rattle.refusal.specs.declared.Refusal.the-variants.{InvalidArgs, AccessDenied, BadState, NoFrames, NoSlot, BadHandle}
+use Rattle.refusal.specs.declared.Refusal.{Refusal}
+use Rattle.refusal.specs.declared.Refusal.the-variants.{InvalidArgs, NoFrames, NoSlot}
 use Rattle.space.specs.Space.{regionAt, isRegion}
 use Rattle.space.specs.Passes.{Passes}
 use Rattle.space.specs.declared.Mapping.{Mapping}
 use Rattle.space.specs.declared.Space.{Space}
-use Rattle.space.proofs.Ranges.{sum-fits, sum-over}
 use Rattle.table_cuts.specs.Cuts.{nonEmpty}
 use Rattle.vmar_offset.specs.Offset.{slotOf, isFreeMapping, freeMapping, testMap}
 use Rattle.vmar_offset.specs.declared.Offset.{Offset}
 use Rattle.vmar_offset.specs.declared.Offset.the-variants as asked
 use Rattle.vmar_offset.proofs.Found.{slot-live}
 use Rattle.vmar_laws.specs.Search.{FreeIn}
-use Rattle.vmar_laws.specs.Maps.{VmoPages, Fine}
-use Rattle.vmar_laws.proofs.Search.{free-in}
+use Rattle.vmar_laws.specs.Answers.{Known, Called, ArgumentsRefused}
+use Rattle.vmar_laws.specs.Answers as argument
+use Rattle.vmar_laws.proofs.Search.{free-in, free-tests}
+use Rattle.vmar_laws.proofs.Answers.{odd-tested, denied-tested, past-tested, fine-tested, unknown-bits, called?}
 use Rattle.vmar_cuts.specs.Cuts.{unmapCuts}
 use Rattle.vmar_cuts.proofs.Parts.{overlap-of}
 use Rattle.vmar_map.specs.Map.{mapping, tested}
 use Rattle.vmar_map.specs.declared.MapExtResult.{MapExtResult}
 use Rattle.vmar_map.specs.declared.MapExtResult.the-variants as result
 use Rattle.vmar_map.specs.declared.Tested.{Tested}
-use Rattle.vmar_map.specs.declared.Tested.the-variants as test
 use Rattle.vmar_map.proofs.Maps as maps
 use Rattle.vmar_unmap.specs.Unmap.{State, CutDone, freeFrames, partlyAt}
 use Rattle.vmar_unmap.proofs.Calls.{range-partly, range-short, range-frames, range-cut}
 use Rattle.vmar_unmap_laws.specs.Unmaps.{Partly}
-use Rattle.vmar_unmap_laws.proofs.Tests.{none-dead, some-partly, no-partly, partly-some, partly-none, free-tests}
-use Rattle.vmar_overwrite.specs.Overwrite.{OverwriteDone, refused, isShort, newSlot, afterCut, cutFor, uncut, overlaid, atOffset, byOffset, inRegion, afterTests, overwritten}
+use Rattle.vmar_unmap_laws.proofs.Tests.{none-dead, some-partly, no-partly, partly-some, partly-none}
+use Rattle.vmar_overwrite.specs.Overwrite.{OverwriteDone, refused, isShort, newSlot, afterCut, cutFor, uncut, overlaid, atOffset, byOffset, afterTests, overwritten}
 use Rattle.vmar_overwrite.proofs.Calls.{too-long, by-slot, empty, some-bytes, nothing-met, something-met, odd-offset, past-region, odd-address, at-address, dead, alive, never-issued, unknown-permissions, unknown-flags, known-all}
-use Rattle.vmar_overwrite_laws.specs.Answers.{Known, Aimed, Cuttable, Fits, Called, RangeAnswers, OverwriteAnswers}
+use Rattle.vmar_overwrite_laws.specs.Answers.{Aimed, Cuttable, Fits, RangeAnswers, OverwriteAnswers}
 use Rattle.vmar_overwrite_laws.specs.Answers as answer
 use Rattle.vmar_overwrite_laws.proofs.Slots.{slot-is, slot-there, free-slot}
 
@@ -108,7 +109,7 @@ module _ (base : ℕ) (st : State) (passes : Passes (st .space) (st .flags)) (r 
   met n = ⊎-elim (λ (t : testMap s r off len ≡ true). absurd (n (free-in s r off len t low live))) (λ (t : testMap s r off len ≡ false). t) (tell (testMap s r off len))
 
   unmet : FreeIn s r b len → testMap s r off len ≡ true
-  unmet f = free-tests s r off len (aim .inner) f
+  unmet f = free-tests s r off len f
 
   -- where something is met, the cut tells
   by-cut : testMap s r off len ≡ false → (len ≡ 0 → ⊥) → (c : CutDone) → c ≡ cutFor base st m slot → Is (afterCut (c .state) slot m fl (c .result) .result)
@@ -228,19 +229,6 @@ module _ (base : ℕ) (st : State) (passes : Passes (st .space) (st .flags)) (id
   otherwise (inl x) n = absurd (n x)
   otherwise (inr x) n = x .1
 
-  pages? : Else (VmoPages at len) (test.Refused InvalidArgs ≡ tested v at len p fl faults)
-  pages? =
-      ⊎-elim
-      (λ (a : multiple at 4096 ≡ true). ⊎-elim
-      (λ (b : multiple len 4096 ≡ true). ⊎-elim
-      (λ (c : leb (at + len) 0xffff_ffff_ffff_ffff ≡ true). inl (record { offset = eqb-true _ _ a; size = eqb-true _ _ b; end = sum-fits at len c }))
-      (λ (c : leb (at + len) 0xffff_ffff_ffff_ffff ≡ false). inr (λ w. sum-over at len c (w .end), maps.over v at len p fl faults a b c))
-      (tell (leb (at + len) 0xffff_ffff_ffff_ffff)))
-      (λ (b : multiple len 4096 ≡ false). inr (λ w. clash _ (eq-eqb _ _ (w .size)) b, maps.odd-length v at len p fl faults a b))
-      (tell (multiple len 4096)))
-      (λ (a : multiple at 4096 ≡ false). inr (λ w. clash _ (eq-eqb _ _ (w .offset)) a, maps.odd-offset v at len p fl faults a))
-      (tell (multiple at 4096))
-
   aimed? : (off : ℕ) → Else (Aimed (st .space) q off len) (refused st InvalidArgs ≡ atOffset base st q off vmo at len p fl)
   aimed? off =
       ⊎-elim
@@ -254,53 +242,26 @@ module _ (base : ℕ) (st : State) (passes : Passes (st .space) (st .flags)) (id
       (λ (x : multiple off 4096 ≡ false). inr (λ w. clash _ (eq-eqb _ _ (w .offset)) x, odd-offset base st q off vmo at len p fl x))
       (tell (multiple off 4096))
 
-  module _ (h : id < st .space .nextid) where
-    known? : Else (Known p fl) (refused st InvalidArgs ≡ Call)
-    known? =
-        let i = lt-ltb _ _ h in
-        ⊎-elim
-        (λ (k : knownPage p ≡ true). ⊎-elim
-        (λ (l : knownPage fl ≡ true). inl (k, l))
-        (λ (l : knownPage fl ≡ false). inr (λ w. clash _ (w .1) l, unknown-flags base st id o vmo at len p fl v faults i k l))
-        (tell (knownPage fl)))
-        (λ (k : knownPage p ≡ false). inr (λ w. clash _ (w .0) k, unknown-permissions base st id o vmo at len p fl v faults i k))
-        (tell (knownPage p))
+  -- from the tests on
+  by-tests : id < st .space .nextid → Known p fl → {d : Tested} → d ≡ tested v at len p fl faults → afterTests base st id o vmo at len p fl d ≡ Call
+  by-tests h k e = ap (afterTests base st id o vmo at len p fl) e ∙ known-all base st id o vmo at len p fl v faults (lt-ltb _ _ h) (k .0) (k .1)
 
-    -- from the tests on
-    module _ (k : Known p fl) where
-      by-tests : {d : Tested} → d ≡ tested v at len p fl faults → afterTests base st id o vmo at len p fl d ≡ Call
-      by-tests e = ap (afterTests base st id o vmo at len p fl) e ∙ known-all base st id o vmo at len p fl v faults (lt-ltb _ _ h) (k .0) (k .1)
-
-      module _ (w : VmoPages at len) where
-        whole-at : multiple at 4096 ≡ true
-        whole-at = eq-eqb _ _ (w .offset)
-
-        whole-len : multiple len 4096 ≡ true
-        whole-len = eq-eqb _ _ (w .size)
-
-        in-time : leb (at + len) 0xffff_ffff_ffff_ffff ≡ true
-        in-time = let z = w .end in le-leb (at + len) 0xffff_ffff_ffff_ffff (omega arith)
-
-        is-denied : grants p (rights fl) ≡ false → refused st AccessDenied ≡ Call
-        is-denied d = by-tests (maps.denied v at len p fl faults whole-at whole-len in-time d)
-
-        is-past : grants p (rights fl) ≡ true → faults ≡ false → v < at + len → refused st InvalidArgs ≡ Call
-        is-past d e l = by-tests (maps.past-vmo v at len p fl faults whole-at whole-len in-time d e (lt-leb _ _ l))
-
-        is-fine : grants p (rights fl) ≡ true → (faults ≡ false → at + len ≤ v) → inRegion base st id o vmo at len p fl ≡ Call
-        is-fine d l =
-            by-tests (⊎-elim
-            (λ (e : faults ≡ true). maps.faulting v at len p fl faults whole-at whole-len in-time d e)
-            (λ (e : faults ≡ false). maps.in-vmo v at len p fl faults whole-at whole-len in-time d e (le-leb _ _ (l e)))
-            (tell faults))
-
-      to-region : Fine v at len p fl faults → inRegion base st id o vmo at len p fl ≡ Call
-      to-region w = is-fine (w .pages) (w .granted) (w .within)
+  refused-only : (why : Refusal) → ArgumentsRefused (st .space) id v at len p fl faults why → refused st why ≡ Call
+  refused-only why (argument.unissued h) = never-issued base st id o vmo at len p fl v faults (le-ltb _ _ h)
+  refused-only why (argument.unknown h n) =
+      ⊎-elim
+      (λ (k : knownPage p ≡ false). unknown-permissions base st id o vmo at len p fl v faults (lt-ltb _ _ h) k)
+      (λ (k : (knownPage p ≡ true) × (knownPage fl ≡ false)). unknown-flags base st id o vmo at len p fl v faults (lt-ltb _ _ h) (k .0) (k .1))
+      (unknown-bits v at len p fl faults n)
+  refused-only why (argument.odd h k n) = by-tests h k (odd-tested v at len p fl faults n)
+  refused-only why (argument.denied h k w d) = by-tests h k (denied-tested v at len p fl faults w d)
+  refused-only why (argument.past h k w d e l) = by-tests h k (past-tested v at len p fl faults w d e l)
+  refused-only why (argument.dead h k w z) = dead base st id o vmo at len p fl q refl z ∙ by-tests h k (fine-tested v at len p fl faults w)
 
   -- in a region that lives
   module _ (A : Called (st .space) id v at len p fl faults) where
     to-offset : byOffset base st q vmo at len p fl o ≡ Call
-    to-offset = let l = A .live in alive base st id o vmo at len p fl q refl (λ z. omega arith) ∙ to-region (A .issued) (A .known) (A .fine)
+    to-offset = let l = A .live in alive base st id o vmo at len p fl q refl (λ z. omega arith) ∙ by-tests (A .issued) (A .known) (fine-tested v at len p fl faults (A .fine))
 
     to-place : {x : Offset} → o ≡ x → byOffset base st q vmo at len p fl x ≡ Call
     to-place e = ap (byOffset base st q vmo at len p fl) (sym e) ∙ to-offset
@@ -313,12 +274,7 @@ module _ (base : ℕ) (st : State) (passes : Passes (st .space) (st .flags)) (id
 
   -- no second answer fits
   pub only : (x : MapExtResult) → All x → x ≡ Call .result
-  only x (answer.unissued h) = result-is (never-issued base st id o vmo at len p fl v faults (le-ltb _ _ h))
-  only x (answer.unknown h n) = result-is (otherwise (known? h) n)
-  only x (answer.odd h k n) = result-is (by-tests h k (otherwise pages? n))
-  only x (answer.denied h k w d) = result-is (is-denied h k w d)
-  only x (answer.past h k w d e l) = result-is (is-past h k w d e l)
-  only x (answer.dead h k w z) = result-is (dead base st id o vmo at len p fl q refl z ∙ to-region h k w)
+  only x (answer.arguments why k) = result-is (refused-only why k)
   only x (answer.unasked A e) = result-is (to-place A e)
   only x (answer.outside A off e n) = result-is (otherwise (aimed? off) n ∙ to-place A e)
   only x (answer.range A off e w y k) = range-only base st passes q off vmo at len p fl (A .live) (home A) w y k ∙ result-is (to-range A off e w)
@@ -337,35 +293,12 @@ module _ (base : ℕ) (st : State) (passes : Passes (st .space) (st .flags)) (id
       (λ n. (result.Refused InvalidArgs, answer.outside A off e (n .0)))
       (aimed? off)
 
-  some-region : id < st .space .nextid → Known p fl → Fine v at len p fl faults → Fitting
-  some-region h k w =
-      ⊎-elim
-      (λ (z : q ≡ 32). (result.Refused BadState, answer.dead h k w z))
-      (λ (z : q ≡ 32 → ⊥). some-offset (record { issued = h; known = k; fine = w; live = slot-live (st .space) id z .0 }) o refl)
-      (same? q 32)
-
-  some-pages : id < st .space .nextid → Known p fl → VmoPages at len → Fitting
-  some-pages h k w =
-      ⊎-elim
-      (λ (d : grants p (rights fl) ≡ true). ⊎-elim
-      (λ (l : v < at + len). ⊎-elim
-      (λ (e : faults ≡ true). some-region h k (record { pages = w; granted = d; within = λ f. clash faults e f }))
-      (λ (e : faults ≡ false). (result.Refused InvalidArgs, answer.past h k w d e l))
-      (tell faults))
-      (λ (l : at + len ≤ v). some-region h k (record { pages = w; granted = d; within = λ f. l }))
-      (below? v (at + len)))
-      (λ (d : grants p (rights fl) ≡ false). (result.Refused AccessDenied, answer.denied h k w d))
-      (tell (grants p (rights fl)))
-
   some-answer : Fitting
   some-answer =
       ⊎-elim
-      (λ (h : id < st .space .nextid). ⊎-elim
-      (λ (k : Known p fl). ⊎-elim (λ (w : VmoPages at len). some-pages h k w) (λ n. (result.Refused InvalidArgs, answer.odd h k (n .0))) pages?)
-      (λ n. (result.Refused InvalidArgs, answer.unknown h (n .0)))
-      (known? h))
-      (λ (h : st .space .nextid ≤ id). (result.Refused BadHandle, answer.unissued h))
-      (below? id (st .space .nextid))
+      (λ (A : Called (st .space) id v at len p fl faults). some-offset A o refl)
+      (λ (k : (why : Refusal) × ArgumentsRefused (st .space) id v at len p fl faults why). (result.Refused (k .0), answer.arguments (k .0) (k .1)))
+      (called? v at len p fl faults (st .space) id)
 
   pub answers : All (Call .result)
   answers = subst All (only (some-answer .0) (some-answer .1)) (some-answer .1)

@@ -31,7 +31,7 @@ use Rattle.vmar_map.specs.Map as half
 use Rattle.vmar_map.specs.declared.MapExtResult.the-variants as result
 use Rattle.vmar_map.specs.declared.Tested.{Tested}
 use Rattle.vmar_map.proofs.Maps as maps
-use Rattle.vmar_laws.specs.Maps.{Fine}
+use Rattle.vmar_laws.specs.Answers.{Fine}
 use Rattle.vmar_laws.proofs.Maps.{Tests, fine, fails, tests}
 use Rattle.vmar_unmap.specs.Unmap.{State, CutDone, freeFrames, cutState, partlyAt}
 use Rattle.vmar_overwrite.specs.Overwrite.{OverwriteDone, refused, newSlot, isShort, withNew, afterCut, cutFor, slotFor, replaced, uncut, atOffset, byOffset, inRegion, afterTests, overwritten}

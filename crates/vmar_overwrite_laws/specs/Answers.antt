@@ -3,13 +3,13 @@
 -- 8. A split needs a slot free before the call and a new mapping one more, after it"; "slots freed by a call do not count for that call"; 10 where "a pool of slots .. is
 -- short, or a mapping exceeds 2 MiB".
 --
--- In this order: the slot of the new mapping, what the tests of the arguments let pass, the answers in the range, all answers.
+-- In this order: the slot of the new mapping, where the range may lie, the answers in the range, all answers.
 use Prim.Native.Nat.{ℕ, _+_, _*_, _%_, _≤_, _<_}
 use mathlib.Core.Path.{_≡_}
 use mathlib.Core.Bool.{Bool, true, false}
 use mathlib.Core.Logic.{_⊎_}
-use Rattle.common.specs.Flags.{knownPage, grants, rights}
-use Rattle.refusal.specs.declared.Refusal.the-variants.{InvalidArgs, AccessDenied, BadState, NoFrames, NoSlot, BadHandle}
+use Rattle.refusal.specs.declared.Refusal.{Refusal}
+use Rattle.refusal.specs.declared.Refusal.the-variants.{InvalidArgs, NoFrames, NoSlot}
 use Rattle.space.specs.Space.{regionAt, isMapping}
 use Rattle.space.specs.declared.Space.{Space}
 use Rattle.table_cuts.specs.Cuts.{nonEmpty}
@@ -17,7 +17,7 @@ use Rattle.vmar_offset.specs.Offset.{slotOf}
 use Rattle.vmar_offset.specs.declared.Offset.{Offset}
 use Rattle.vmar_offset.specs.declared.Offset.the-variants as offset
 use Rattle.vmar_laws.specs.Search.{FreeIn}
-use Rattle.vmar_laws.specs.Maps.{VmoPages, Fine}
+use Rattle.vmar_laws.specs.Answers.{Called, ArgumentsRefused}
 use Rattle.vmar_map.specs.declared.MapExtResult.{MapExtResult}
 use Rattle.vmar_map.specs.declared.MapExtResult.the-variants as result
 use Rattle.vmar_cuts.specs.Cuts.{unmapCuts}
@@ -30,10 +30,6 @@ pub record NewSlot (s : Space) (r b e i : ℕ) : Type 0 where
   pub free : isMapping s i ≡ false
   pub lowest : ((j : ℕ) → Split s r b e j → ⊥) → (k : ℕ) → k < i → isMapping s k ≡ true
   pub next : (j : ℕ) → Split s r b e j → (l : ℕ) × (l < i) × (isMapping s l ≡ false) × ((k : ℕ) → k < i → (k ≡ l → ⊥) → isMapping s k ≡ true)
-
--- no bit of the permissions and the flags is unknown
-abbrev pub Known : ℕ → ℕ → Type 0
-Known permissions flags = (knownPage permissions ≡ true) × (knownPage flags ≡ true)
 
 -- the range at this offset lies in the region in slot r; offset and address are of whole pages
 pub record Aimed (s : Space) (r off len : ℕ) : Type 0 where
@@ -64,25 +60,10 @@ pub data RangeAnswers (st : State) (r b len : ℕ) : MapExtResult → Type 0 whe
   done : Cuttable (st .space) r b len → Fits (st .space) r b len → FreeIn (st .space) r b len ⊎ (4 * nonEmpty (unmapCuts (st .space) r b (b + len)) ≤ freeFrames st)
       → RangeAnswers st r b len (result.Mapped b)
 
--- the call's id was issued, its arguments pass the tests, and its region lives
-pub record Called (s : Space) (id vmo-len at len permissions flags : ℕ) (faults : Bool) : Type 0 where
-  pub issued : id < s .nextid
-  pub known : Known permissions flags
-  pub fine : Fine vmo-len at len permissions flags faults
-  pub live : slotOf s id < 32
-
--- what the call answers: 11, 1, 1, 2, 1, 5, 1 or 1, in this order, or what the range gives
+-- what the call answers: a refusal of the arguments, 1 or 1, in this order, or what the range gives
 pub data OverwriteAnswers (st : State) (id : ℕ) (o : Offset) (vmo-len at len permissions flags : ℕ) (faults : Bool) : MapExtResult → Type 0 where
-  unissued : st .space .nextid ≤ id → OverwriteAnswers st id o vmo-len at len permissions flags faults (result.Refused BadHandle)
-  unknown : id < st .space .nextid → (Known permissions flags → ⊥) → OverwriteAnswers st id o vmo-len at len permissions flags faults (result.Refused InvalidArgs)
-  odd : id < st .space .nextid → Known permissions flags → (VmoPages at len → ⊥)
-      → OverwriteAnswers st id o vmo-len at len permissions flags faults (result.Refused InvalidArgs)
-  denied : id < st .space .nextid → Known permissions flags → VmoPages at len → grants permissions (rights flags) ≡ false
-      → OverwriteAnswers st id o vmo-len at len permissions flags faults (result.Refused AccessDenied)
-  past : id < st .space .nextid → Known permissions flags → VmoPages at len → grants permissions (rights flags) ≡ true → faults ≡ false → vmo-len < at + len
-      → OverwriteAnswers st id o vmo-len at len permissions flags faults (result.Refused InvalidArgs)
-  dead : id < st .space .nextid → Known permissions flags → Fine vmo-len at len permissions flags faults → slotOf (st .space) id ≡ 32
-      → OverwriteAnswers st id o vmo-len at len permissions flags faults (result.Refused BadState)
+  arguments : (why : Refusal) → ArgumentsRefused (st .space) id vmo-len at len permissions flags faults why
+      → OverwriteAnswers st id o vmo-len at len permissions flags faults (result.Refused why)
   -- an overwrite needs an offset
   unasked : Called (st .space) id vmo-len at len permissions flags faults → o ≡ offset.None
       → OverwriteAnswers st id o vmo-len at len permissions flags faults (result.Refused InvalidArgs)

@@ -21,6 +21,7 @@ use Rattle.table_unmap_cont.specs.Demand.{answered}
 use Rattle.table_cuts.specs.Cuts.{nonEmpty}
 use Rattle.vmar_offset.specs.Offset.{testMap}
 use Rattle.vmar_laws.specs.Search.{FreeIn}
+use Rattle.vmar_laws.proofs.Search.{free-tests}
 use Rattle.vmar_doom.specs.Doomed.{Doomed, marked}
 use Rattle.vmar_doom.specs.Doomed as doomed
 use Rattle.vmar_cuts.specs.Cuts.{END, destroyCuts}
@@ -39,7 +40,6 @@ use Rattle.vmar_unmap.specs.Unmap.{State, tablesOf, freeFrames, goingWith, cutS
 use Rattle.vmar_unmap_laws.specs.Ready.{Ready, KeptAt, GoneAt, RegionsLeft}
 use Rattle.vmar_unmap_laws.specs.Clears.{Emptied, Goes, ClearDone}
 use Rattle.vmar_unmap_laws.proofs.One.{under-lives, one-place, one-holds}
-use Rattle.vmar_unmap_laws.proofs.Tests.{free-tests}
 use Rattle.vmar_unmap_laws.proofs.Left.{address, frames-of, held, other-at, regions-left}
 
 module _ {s : Space} {f : List ℕ} (p : Passes s f) where
@@ -258,13 +258,10 @@ module _ (base : ℕ) (st : State) (R : Ready base st) (r : ℕ) (l : r < 32) (a
       -- nor does a test of the range find it
       fits : testMap (t .space) q (regionAt s r .addr - regionAt s q .addr) (regionAt s r .size) ≡ true
       fits =
-          let w = child-in p r q l a (up .slot) refl in
-          let w0 = w .0 in
-          let w1 = w .1 in
+          let w = child-in p r q l a (up .slot) refl .0 in
           let from : regionAt (t .space) q .addr ≡ regionAt s q .addr = ap (λ (k : Region). k .addr) same-parent in
-          let size : regionAt (t .space) q .size ≡ regionAt s q .size = ap (λ (k : Region). k .size) same-parent in
           let at : regionAt s r .addr ≡ regionAt (t .space) q .addr + (regionAt s r .addr - regionAt s q .addr) = omega arith in
-          free-tests (t .space) q (regionAt s r .addr - regionAt s q .addr) (regionAt s r .size) (omega arith) (subst (λ (x : ℕ). FreeIn (t .space) q x (regionAt s r .size)) at free)
+          free-tests (t .space) q (regionAt s r .addr - regionAt s q .addr) (regionAt s r .size) (subst (λ (x : ℕ). FreeIn (t .space) q x (regionAt s r .size)) at free)
 
     -- clear leaves the region itself
     pub clear-own : itself ≡ false → regionAt (t .space) r ≡ regionAt s r

@@ -6,7 +6,7 @@ use mathlib.Core.List.{List}
 use mathlib.Core.Logic.{⊎-elim}
 use native.Mathlib.Omega.{arith}
 use lib.Dec.{eqb, ltb}
-use borrow.Author.Tests.{le-leb, ltb-true, lt-ltb, eqb-true, eq-eqb, not-true, not-false}
+use borrow.Author.Tests.{ltb-true, lt-ltb, eqb-true, eq-eqb, not-true, not-false}
 use Rattle.paging.proofs.Cases.{below?, no-truth, clash}
 use Rattle.scan.specs.Scan.{someOf, some}
 use Rattle.scan.proofs.Scans.{tell, none-passes, first-passes, first-most, before-first}
@@ -14,13 +14,11 @@ use Rattle.space.specs.Range.{overlap, inside}
 use Rattle.space.specs.Space.{regionAt, mappingAt, isRegion, regionPlace}
 use Rattle.space.specs.Passes.{Passes}
 use Rattle.space.specs.declared.Region.{Region}
-use Rattle.space.specs.declared.Mapping.{Mapping}
 use Rattle.space.specs.declared.Space.{Space}
 use Rattle.space.proofs.Facts.{region-place}
 use Rattle.space.proofs.Ranges.{inner, inner-of}
-use Rattle.vmar_offset.specs.Offset.{isFreeMapping, freeMapping, childMeets, mappingMeets, meetsChild, meetsMapping, testMap}
-use Rattle.vmar_laws.specs.Search.{FreeIn}
-use Rattle.vmar_cuts.proofs.Parts.{overlaps, overlap-of, meets}
+use Rattle.vmar_offset.specs.Offset.{isFreeMapping, freeMapping, childMeets}
+use Rattle.vmar_cuts.proofs.Parts.{overlaps, overlap-of}
 use Rattle.vmar_prune.specs.Prune.{splitAt, splitSlot}
 use Rattle.vmar_prune_laws.proofs.Pieces.{before-most, before-least, after-most, after-least, split-is, split-of}
 use Rattle.vmar_unmap.specs.Unmap.{isPartly, partlyAt, deadAt, hasDead, lacksSlot}
@@ -194,35 +192,3 @@ module _ (s : Space) (r b e : ℕ) where
 
   pub no-short : b ≤ e → lacksSlot s r b e ≡ false → (i : ℕ) → Short s r b e i → ⊥
   no-short h t i k = clash _ (short-of i h k) t
-
--- a range that is free passes the test
-meets-mapping : (m : Mapping) (r b n : ℕ) → mappingMeets m r b n ≡ true → (m .live ≡ true) × (m .region ≡ r) × (overlap (m .addr) (m .size) b n ≡ true)
-meets-mapping m r b n t = let k = meets m r b n t in (k .live, k .own, overlap-of _ _ _ _ (k .from) (k .to))
-
-test-of : (s : Space) (r off len : ℕ) → off + len ≤ regionAt s r .size → some (meetsChild s r (regionAt s r .addr + off) len) 0 32 ≡ false
-    → some (meetsMapping s r (regionAt s r .addr + off) len) 0 64 ≡ false → testMap s r off len ≡ true
-unfolding testMap
-test-of s r off len l c m = rw (le-leb (off + len) (regionAt s r .size) l, c, m)
-
-pub free-tests : (s : Space) (r off len : ℕ) → off + len ≤ regionAt s r .size → FreeIn s r (regionAt s r .addr + off) len → testMap s r off len ≡ true
-free-tests s r off len l f = test-of s r off len l children mappings
-  where
-    children : some (meetsChild s r (regionAt s r .addr + off) len) 0 32 ≡ false
-    children =
-        ⊎-elim
-        (λ (t : some (meetsChild s r (regionAt s r .addr + off) len) 0 32 ≡ true).
-        let k = one-passes (meetsChild s r (regionAt s r .addr + off) len) 32 t in
-        let m = meets-parts (regionAt s (k .0)) r _ _ (k .2) in
-        clash _ (m .2) (f .children (k .0) (k .1) (m .0) (m .1)))
-        (λ (t : some (meetsChild s r (regionAt s r .addr + off) len) 0 32 ≡ false). t)
-        (tell (some (meetsChild s r (regionAt s r .addr + off) len) 0 32))
-
-    mappings : some (meetsMapping s r (regionAt s r .addr + off) len) 0 64 ≡ false
-    mappings =
-        ⊎-elim
-        (λ (t : some (meetsMapping s r (regionAt s r .addr + off) len) 0 64 ≡ true).
-        let k = one-passes (meetsMapping s r (regionAt s r .addr + off) len) 64 t in
-        let m = meets-mapping (mappingAt s (k .0)) r _ _ (k .2) in
-        clash _ (m .2) (f .mappings (k .0) (k .1) (m .0) (m .1)))
-        (λ (t : some (meetsMapping s r (regionAt s r .addr + off) len) 0 64 ≡ false). t)
-        (tell (some (meetsMapping s r (regionAt s r .addr + off) len) 0 64))
