@@ -18,6 +18,12 @@ use Rattle.table.specs.Table.{queried}
 use Rattle.vmar_offset.specs.Offset.{slotOf}
 use Rattle.vmar_offset.specs.declared.Offset.{Offset}
 use Rattle.vmar_offset.proofs.Found.{slot-live}
+use Rattle.vmar_allocate.specs.Allocate.{allocated}
+use Rattle.vmar_allocate.specs.declared.Allocation.{Allocation}
+use Rattle.vmar_map.specs.Map.{MapDone, mapped}
+use Rattle.vmar_laws.specs.Answers.{AllocateAnswers, MapAnswers}
+use Rattle.vmar_laws.proofs.Allocates.{allocates}
+use Rattle.vmar_laws.proofs.Maps.{maps}
 use Rattle.vmar_lookup.specs.Laws.{FlagsAnswers, ofPage}
 use Rattle.vmar_lookup.specs.Lookup.{answered, mappingFlags, vaddrFlags}
 use Rattle.vmar_lookup.specs.declared.FlagsResult.{FlagsResult}
@@ -62,7 +68,7 @@ use Rattle.vmar.specs.Calls.{
 }
 use Rattle.vmar.specs.Laws.{LookupAnswers, unissued, dead, alive, Tells}
 use Rattle.vmar.proofs.Parts.{flags-unissued, flags-dead, flags-alive, vaddr-unissued, vaddr-dead, vaddr-alive}
-use Rattle.vmar.proofs.Replies.{flags-once, user-once, ext-once, cut-once, protect-once}
+use Rattle.vmar.proofs.Replies.{allocate-once, map-once, flags-once, user-once, ext-once, cut-once, protect-once}
 
 -- on what passes the outcome is the call's
 taken-is : {A P : Type 0} {no′ yes′ out : A} → P → Answered P no′ yes′ out → out ≡ yes′
@@ -121,6 +127,13 @@ ready s f p base used arrays pass good = record { arrays = arrays; passes = pass
 
 pub tells : Tells
 tells = record {
+  allocate = λ s f id o len flags align out arrays p fits.
+      subst (λ (d : Allocation). AllocateAnswers s id o len flags align (d .result)) (sym (allocate-once out (allocated s id o len flags align) (taken-is p fits)))
+      (allocates .holds s f arrays p id o len flags align .answers);
+  map = λ s f p base used id o vmo vmo-len at len permissions flags faults out arrays pass good fits.
+      subst (λ (d : MapDone). MapAnswers s id o vmo-len at len permissions flags faults (d .result))
+      (sym (map-once (before s f p base used) out (mapped s f id o vmo vmo-len at len permissions flags faults) (done-is pass good fits)))
+      (maps .holds s f arrays pass id o vmo vmo-len at len permissions flags faults .answers);
   mapping-flags = mapping-flags;
   vaddr-flags = vaddr-flags;
   user-range = λ s f id addr len access out p fits e. user-ranges .holds s f p .call-usable id addr len access (sym (ranged s f id addr len access out p fits) ∙ e);

@@ -36,6 +36,7 @@ use Rattle.vmar_unmap_laws.specs.Clears.{ClearAnswers, ClearDone}
 use Rattle.vmar_overwrite_laws.specs.Overwrites as over
 use Rattle.form.specs.Form.{Good}
 use Rattle.vmar_laws.specs.Later.{Later}
+use Rattle.vmar_laws.specs.Answers.{AllocateAnswers, MapAnswers}
 use Rattle.vmar_laws.specs.Allocates as allocates
 use Rattle.vmar_laws.specs.Maps as maps
 use Rattle.vmar_root.specs.Root.{newSpace}
@@ -140,6 +141,11 @@ pub data LookupAnswers (s : Space) (id x : ℕ) (value : ℕ → FlagsResult) (y
 
 -- what a call answers on a space that passes its check and a good pool: each refusal exactly when it is given, and success
 pub record Tells : Type 0 where
+  pub allocate : (s : Space) (f : List ℕ) (id : ℕ) (o : Offset) (len flags align : ℕ) (out : Allocation) → Arrays s → Passes s f → AllocateFits s f id o len flags align out
+      → AllocateAnswers s id o len flags align (out .result)
+  pub map : (s : Space) (f p : List ℕ) (base used id : ℕ) (o : Offset) (vmo vmo-len at len permissions flags : ℕ) (faults : Bool) (out : MapDone) → Arrays s
+      → Passes s f → Good p base used → MapFits s f p base used id o vmo vmo-len at len permissions flags faults out
+      → MapAnswers s id o vmo-len at len permissions flags faults (out .result)
   pub mapping-flags : (s : Space) (f : List ℕ) (id x : ℕ) (out : FlagsDone) → Passes s f → FlagsFit s f id x out → LookupAnswers s id x (ofPage s f x) (out .result)
   pub vaddr-flags : (s : Space) (f p : List ℕ) (base used id x : ℕ) (out : FlagsDone) → Passes s f → Good p base used → VaddrFits s f p base used id x out
       → LookupAnswers s id x (λ m. answered (queried p (base / 4096) x)) (out .result)
