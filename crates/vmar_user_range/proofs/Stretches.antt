@@ -154,7 +154,7 @@ module _ (s : Space) (f : List ℕ) (p : Passes s f) (r : ℕ) (l : r < 32) (a :
   unheld page c = missed page (λ m e. none-holds s (startOf addr page) m c (laws .found-holds (startOf addr page) r m l a e))
 
   -- the lookup at an address of the region that a mapping holds gives the flags of its page there
-  pub looked-up : (page m : ℕ) → contains (regionAt s r .addr) (regionAt s r .size) (startOf addr page) ≡ true → Holds s (startOf addr page) m
+  looked-up : (page m : ℕ) → contains (regionAt s r .addr) (regionAt s r .size) (startOf addr page) ≡ true → Holds s (startOf addr page) m
       → verdict s f r addr access page ≡ allows access (pageAt f m ((startOf addr page - mappingAt s m .addr) / 4096))
   unfolding verdict
   looked-up page m c h = ap (λ (x : Found). judged access (pageFlags s f (startOf addr page) x)) (laws .finds (startOf addr page) r m l a c h)
