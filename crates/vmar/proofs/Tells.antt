@@ -41,6 +41,7 @@ use Rattle.vmar_unmap_laws.specs.Unmaps.{UnmapAnswers}
 use Rattle.vmar_unmap_laws.specs.Clears.{ClearAnswers}
 use Rattle.vmar_unmap_laws.proofs.Unmaps.{unmaps}
 use Rattle.vmar_unmap_laws.proofs.Clears.{clears}
+use Rattle.vmar_user_range.specs.Laws.{UserRangeAnswers}
 use Rattle.vmar_user_range.specs.UserRange.{userRange}
 use Rattle.vmar_user_range.proofs.Laws.{user-ranges}
 use Rattle.vmar.specs.Calls.{
@@ -117,11 +118,6 @@ vaddr-flags s f p base used id x out pass good fits =
     (subst (FlagsAnswers s x (slotOf s id) value) (vaddr-alive s p base id x (slotOf s id) refl (lt-ltb id (s .nextid) l) (ne-eqb (slotOf s id) 32 n))
     (lookups .holds s f pass .vaddr-flags x (slotOf s id) h live p (base / 4096) .answers))))
 
--- check_user_range's outcome
-ranged : (s : Space) (f : List ℕ) (id addr len access : ℕ) (out : UserRangeDone) → Passes s f → UserRangeFits s f id addr len access out
-    → out .result ≡ userRange s f id addr len access
-ranged s f id addr len access out p fits = ap (λ (d : UserRangeDone). d .result) (user-once out (seen s (userRange s f id addr len access)) (taken-is p fits))
-
 ready : (s : Space) (f p : List ℕ) (base used : ℕ) → Arrays s → Passes s f → Good p base used → Ready base (before s f p base used)
 ready s f p base used arrays pass good = record { arrays = arrays; passes = pass; good = good }
 
@@ -136,8 +132,10 @@ tells = record {
       (maps .holds s f arrays pass id o vmo vmo-len at len permissions flags faults .answers);
   mapping-flags = mapping-flags;
   vaddr-flags = vaddr-flags;
-  user-range = λ s f id addr len access out p fits e. user-ranges .holds s f p .call-usable id addr len access (sym (ranged s f id addr len access out p fits) ∙ e);
-  user-range-of = λ s f id addr len access out p fits i u. ranged s f id addr len access out p fits ∙ user-ranges .holds s f p .call-allowed id addr len access i u;
+  user-range = λ s f id addr len access out p fits.
+      subst (λ (d : UserRangeDone). UserRangeAnswers s f id addr len access (d .result))
+      (sym (user-once out (seen s (userRange s f id addr len access)) (taken-is p fits)))
+      (user-ranges .holds s f p .answers id addr len access);
   overwrite = λ s f p base used id o vmo vmo-len at len permissions flags faults out arrays pass good fits.
       subst (λ (d : OverwriteDone). OverwriteAnswers (before s f p base used) id o vmo-len at len permissions flags faults (d .result))
       (sym (ext-once out (mapExt base (before s f p base used) id o vmo vmo-len at len permissions flags true faults) (done-is pass good fits)))

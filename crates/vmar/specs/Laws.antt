@@ -4,7 +4,6 @@ use Prim.Native.Nat.{ℕ, _+_, _/_, _≤_, _<_}
 use mathlib.Core.Path.{_≡_}
 use mathlib.Core.Bool.{Bool, true, false}
 use mathlib.Core.List.{List}
-use mathlib.Core.Logic.{_⊎_}
 use lib.ListN.{length, getD}
 use Rattle.space.specs.Passes.{Passes, RootRange}
 use Rattle.space.specs.declared.Space.{Space}
@@ -23,8 +22,7 @@ use Rattle.vmar_lookup.specs.Laws.{FlagsAnswers, ofPage}
 use Rattle.vmar_lookup.specs.Lookup.{answered}
 use Rattle.vmar_lookup.specs.declared.FlagsResult.{FlagsResult}
 use Rattle.vmar_lookup.specs.declared.FlagsResult.the-variants as flags
-use Rattle.vmar_user_range.specs.Laws.{UsableRange}
-use Rattle.vmar_user_range.specs.declared.UserRangeResult.the-variants as user
+use Rattle.vmar_user_range.specs.Laws.{UserRangeAnswers}
 use Rattle.vmar_protect_laws.specs.Answers.{ProtectAnswers}
 use Rattle.vmar_protect_laws.specs.Laws.{Protects, call}
 use Rattle.vmar_overwrite_laws.specs.Answers.{OverwriteAnswers}
@@ -149,11 +147,8 @@ pub record Tells : Type 0 where
   pub mapping-flags : (s : Space) (f : List ℕ) (id x : ℕ) (out : FlagsDone) → Passes s f → FlagsFit s f id x out → LookupAnswers s id x (ofPage s f x) (out .result)
   pub vaddr-flags : (s : Space) (f p : List ℕ) (base used id x : ℕ) (out : FlagsDone) → Passes s f → Good p base used → VaddrFits s f p base used id x out
       → LookupAnswers s id x (λ m. answered (queried p (base / 4096) x)) (out .result)
-  -- success exactly when the range is empty or usable
-  pub user-range : (s : Space) (f : List ℕ) (id addr len access : ℕ) (out : UserRangeDone) → Passes s f → UserRangeFits s f id addr len access out → out .result ≡ user.Allowed
-      → (id < s .nextid) × ((len ≡ 0) ⊎ UsableRange s f id addr len access)
-  pub user-range-of : (s : Space) (f : List ℕ) (id addr len access : ℕ) (out : UserRangeDone) → Passes s f → UserRangeFits s f id addr len access out → id < s .nextid
-      → (len ≡ 0) ⊎ UsableRange s f id addr len access → out .result ≡ user.Allowed
+  pub user-range : (s : Space) (f : List ℕ) (id addr len access : ℕ) (out : UserRangeDone) → Passes s f → UserRangeFits s f id addr len access out
+      → UserRangeAnswers s f id addr len access (out .result)
   pub overwrite : (s : Space) (f p : List ℕ) (base used id : ℕ) (o : Offset) (vmo vmo-len at len permissions flags : ℕ) (faults : Bool) (out : OverwriteDone) → Arrays s
       → Passes s f → Good p base used → MapExtFits s f p base used id o vmo vmo-len at len permissions flags true faults out
       → OverwriteAnswers (before s f p base used) id o vmo-len at len permissions flags faults (out .result)
