@@ -1,23 +1,12 @@
 // Makes the calls that standard input lists, one a line, on a pool of up to 64 frames and a space, and writes an answer for each. docs/REPLAY.md
 // has the lines and the answers. Nothing grows with the input: of a line that is longer than any readable one the rest is passed over.
 use libc::STDIN_FILENO;
-use refusal::Refusal;
 use std::num::wrapping_add_u64;
-use table::NewAddr;
-use table::NewFlags;
-use table::QueryResult;
-use table::UnmapResult;
-use table::UpdateResult;
-use table_map::MapResult;
-use table_unmap_cont::UnmapContResult;
 use trace_line::Fields;
 use trace_line::Line;
 use trace_line::What;
 use trace_space::Held;
-ghost use Prim.Native.Nat.{_≤_, _<_};
-ghost use lib.ListN.{length};
-
-const FRAME_WORDS: usize = 512;
+use trace_table::Answer;
 
 // Refusal number of a space that fails its check.
 const BAD_SPACE: u64 = 12;
@@ -38,218 +27,16 @@ struct State {
     is_ended: bool,
 }
 
-// Refusal number, frames in use afterwards, and one to three values.
-struct Answer {
-    number: u64,
-    used: usize,
-    many: usize,
-    a: u64,
-    b: u64,
-    c: u64,
-}
-
-fn refused(number: u64, used: usize) -> Answer {
-    Answer {
-        number,
-        used,
-        many: 1,
-        a: 0,
-        b: 0,
-        c: 0,
-    }
-}
-
-fn done(used: usize, many: usize, a: u64, b: u64, c: u64) -> Answer {
-    Answer {
-        number: 0,
-        used,
-        many,
-        a,
-        b,
-        c,
-    }
-}
-
-fn unreadable(used: usize) -> Answer {
-    refused(16, used)
-}
-
-fn query(pool: &[u64], base: u64, used: usize, vaddr: u64) -> Answer {
-    match page_table::query(pool, base, used, vaddr) {
-        QueryResult::Page(paddr, flags, size) => done(used, 3, paddr, flags.0, size.size()),
-        QueryResult::Refused(r) => refused(r.number(), used),
-    }
-}
-
-fn unmap(pool: &mut [u64], base: u64, used: usize, vaddr: u64) -> Answer {
-    match page_table::unmap(pool, base, used, vaddr) {
-        UnmapResult::Unmapped(paddr, size) => done(used, 2, paddr, size.size(), 0),
-        UnmapResult::Refused(r) => refused(r.number(), used),
-    }
-}
-
-fn update(
-    pool: &mut [u64],
-    base: u64,
-    used: usize,
-    vaddr: u64,
-    paddr: NewAddr,
-    flags: NewFlags,
-) -> Answer {
-    match page_table::update(pool, base, used, vaddr, paddr, flags) {
-        UpdateResult::Updated(size) => done(used, 1, size.size(), 0, 0),
-        UpdateResult::Refused(r) => refused(r.number(), used),
-    }
-}
-
-// What a map answers, of one page or of a range.
-fn mapped(answer: MapResult, used: usize) -> Answer {
-    match answer {
-        MapResult::Mapped(after) => done(after, 1, 0, 0, 0),
-        MapResult::Refused(r) => refused(r.number(), used),
-    }
-}
-
-fn unmap_cont(pool: &mut [u64], base: u64, used: usize, vaddr: u64, size: u64) -> Answer {
-    match generic_page_table::unmap_cont(pool, base, used, vaddr, size) {
-        UnmapContResult::Unmapped(taken) => done(
-            wrapping_add_u64(used as u64, taken as u64) as usize,
-            1,
-            taken as u64,
-            0,
-            0,
-        ),
-        UnmapContResult::Refused(r) => refused(r.number(), used),
-    }
-}
-
-fn set_word(pool: &mut [u64], used: usize, index: u64, word: u64) -> Answer {
-    let at = index as usize;
-    if pool.len() <= at {
-        return unreadable(used);
-    }
-    pool[at] = word;
-    done(used, 1, 0, 0, 0)
-}
-
-// Two sums over every word, taken or not; the second weighs each word by its place.
-fn sum(pool: &[u64], used: usize) -> Answer {
-    let mut first: u64 = 0;
-    let mut second: u64 = 0;
-    let mut i = 0;
-    while i < pool.len() {
-        first = wrapping_add_u64(first, pool[i]);
-        second = wrapping_add_u64(second, first);
-        i += 1;
-    }
-    done(used, 2, first, second, 0)
-}
-
-// What a line does to a pool that is there.
-fn made(pool: &mut [u64], base: u64, used: usize, what: Line) -> Answer {
-    match what {
-        Line::Word(index, word) => set_word(pool, used, index, word),
-        Line::Sum => sum(pool, used),
-        Line::Map(vaddr, size, paddr, flags) => mapped(
-            page_table::map(pool, base, used, vaddr, paddr, size, flags),
-            used,
-        ),
-        Line::Unmap(vaddr) => unmap(pool, base, used, vaddr),
-        Line::Update(vaddr, paddr, flags) => update(pool, base, used, vaddr, paddr, flags),
-        Line::Query(vaddr) => query(pool, base, used, vaddr),
-        Line::MapCont(vaddr, size, paddr, flags) => mapped(
-            generic_page_table::map_cont(pool, base, used, vaddr, size, paddr, flags),
-            used,
-        ),
-        Line::UnmapCont(vaddr, size) => unmap_cont(pool, base, used, vaddr, size),
-        Line::New(_, _, _) => unreadable(used),
-        Line::Dump => unreadable(used),
-        Line::Space(_) => unreadable(used),
-        Line::Unreadable => unreadable(used),
-    }
-}
-
-fn number(out: &mut [u8], waiting: usize, n: u64) -> usize {
-    let waiting = trace_output::byte(out, waiting, b' ');
-    trace_output::hex(out, waiting, n)
-}
-
-fn count(out: &mut [u8], waiting: usize, n: u64) -> usize {
-    let waiting = trace_output::byte(out, waiting, b' ');
-    trace_output::decimal(out, waiting, n)
-}
-
-// The end of an answer: the frames in use.
-fn finish(out: &mut [u8], waiting: usize, used: usize) -> usize {
-    let waiting = count(out, waiting, used as u64);
-    trace_output::byte(out, waiting, b'\n')
-}
-
-fn write_values(out: &mut [u8], waiting: usize, answer: Answer) -> usize {
-    let waiting = number(out, waiting, answer.a);
-    if answer.many < 2 {
-        return waiting;
-    }
-    let waiting = number(out, waiting, answer.b);
-    if answer.many < 3 {
-        return waiting;
-    }
-    number(out, waiting, answer.c)
-}
-
-fn write_answer(out: &mut [u8], waiting: usize, answer: Answer) -> usize {
-    let waiting = count(out, waiting, answer.number);
-    let waiting = write_values(out, waiting, answer);
-    finish(out, waiting, answer.used)
-}
-
-fn write_word(out: &mut [u8], waiting: usize, index: usize, word: u64) -> usize {
-    if word == 0 {
-        return waiting;
-    }
-    let waiting = number(out, waiting, index as u64);
-    number(out, waiting, word)
-}
-
-// Index and value of each word that is not 0.
-fn write_words(out: &mut [u8], waiting: usize, words: &[u64]) -> usize {
-    let mut now = waiting;
-    let mut i = 0;
-    while i < words.len() {
-        now = write_word(out, now, i, words[i]);
-        i += 1;
-    }
-    now
-}
-
-// How many words so many frames have, and no more than there are.
-fn words_of(frames: usize, words: &[u64]) -> usize
-    ensures { λ r. ⌜ r ≤ length (now (words .entry)) ⌝ }
-{
-    if frames <= words.len() / FRAME_WORDS {
-        return frames * FRAME_WORDS;
-    }
-    words.len()
-}
-
-fn zero(words: &mut [u64]) {
-    let mut i = 0;
-    while i < words.len() {
-        words[i] = 0;
-        i += 1;
-    }
-}
-
 fn least(a: usize, b: usize) -> usize {
     if a < b { a } else { b }
 }
 
 fn dump(words: &[u64], out: &mut [u8], state: State) -> State {
     let mut after = state;
-    let len = words_of(least(state.used, state.frames), words);
-    let waiting = count(out, state.waiting, 0);
-    let waiting = write_words(out, waiting, &words[..len]);
-    after.waiting = finish(out, waiting, state.used);
+    let len = trace_table::words_of(least(state.used, state.frames), words);
+    let waiting = trace_table::count(out, state.waiting, 0);
+    let waiting = trace_table::write_words(out, waiting, &words[..len]);
+    after.waiting = trace_table::finish(out, waiting, state.used);
     after
 }
 
@@ -262,20 +49,24 @@ fn renew(
     used: u64,
 ) -> State {
     let mut after = state;
-    zero(words);
+    trace_table::zero(words);
     after.base = base;
     after.frames = frames as usize;
     after.used = used as usize;
-    after.waiting = write_answer(out, state.waiting, done(used as usize, 1, 0, 0, 0));
+    after.waiting = trace_table::write_answer(
+        out,
+        state.waiting,
+        trace_table::done(used as usize, 1, 0, 0, 0),
+    );
     after
 }
 
 fn make(words: &mut [u64], out: &mut [u8], state: State, what: Line) -> State {
     let mut after = state;
-    let len = words_of(state.frames, words);
-    let answer = made(&mut words[..len], state.base, state.used, what);
+    let len = trace_table::words_of(state.frames, words);
+    let answer = trace_table::made(&mut words[..len], state.base, state.used, what);
     after.used = answer.used;
-    after.waiting = write_answer(out, state.waiting, answer);
+    after.waiting = trace_table::write_answer(out, state.waiting, answer);
     after
 }
 
@@ -288,7 +79,7 @@ fn make_space(
     what: What,
     fields: Fields,
 ) -> State {
-    let len = words_of(state.frames, words);
+    let len = trace_table::words_of(state.frames, words);
     let reply = trace_space::answer(
         state.held,
         pages,
@@ -306,7 +97,7 @@ fn make_space(
         b: 0,
         c: 0,
     };
-    let waiting = write_answer(out, state.waiting, answer);
+    let waiting = trace_table::write_answer(out, state.waiting, answer);
     let held = reply.held;
     State {
         held,
@@ -322,9 +113,9 @@ fn make_space(
 
 fn list_space(pages: &[u8], out: &mut [u8], state: State) -> State {
     let mut after = state;
-    let waiting = count(out, state.waiting, 0);
+    let waiting = trace_table::count(out, state.waiting, 0);
     let waiting = trace_space::write_space(state.held, pages, out, waiting);
-    after.waiting = finish(out, waiting, state.used);
+    after.waiting = trace_table::finish(out, waiting, state.used);
     after
 }
 
@@ -332,12 +123,16 @@ fn list_space(pages: &[u8], out: &mut [u8], state: State) -> State {
 fn list_tree(pages: &[u8], out: &mut [u8], state: State) -> State {
     let mut after = state;
     if !trace_space::is_good(state.held, pages) {
-        after.waiting = write_answer(out, state.waiting, refused(BAD_SPACE, state.used));
+        after.waiting = trace_table::write_answer(
+            out,
+            state.waiting,
+            trace_table::refused(BAD_SPACE, state.used),
+        );
         return after;
     }
-    let waiting = count(out, state.waiting, 0);
+    let waiting = trace_table::count(out, state.waiting, 0);
     let waiting = trace_space::write_tree(state.held, pages, out, waiting);
-    after.waiting = finish(out, waiting, state.used);
+    after.waiting = trace_table::finish(out, waiting, state.used);
     after
 }
 

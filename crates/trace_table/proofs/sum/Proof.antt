@@ -2,8 +2,8 @@
 use Prim.Native.Nat.{_≤_, _-_}
 use lib.ListN.{length}
 use borrow.Author.Needs.{needs}
-use Rattle.vmreplay.proofs.sum.Statement.{statement}
-use Rattle.vmreplay.proofs.sum.Tie as tie
+use Rattle.trace_table.proofs.sum.Statement.{statement}
+use Rattle.trace_table.proofs.sum.Tie as tie
 
 abbrev Inv-loop : tie.InvT-loop
 Inv-loop pool used first₀ second₀ i₀ first second i = i ≤ length pool

@@ -3,8 +3,8 @@ use mathlib.Core.Path.{_≡_}
 use Prim.Native.Nat.{_≤_, _-_}
 use lib.ListN.{length}
 use borrow.Author.Needs.{needs}
-use Rattle.vmreplay.proofs.write_words.Statement.{statement}
-use Rattle.vmreplay.proofs.write_words.Tie as tie
+use Rattle.trace_table.proofs.write_words.Statement.{statement}
+use Rattle.trace_table.proofs.write_words.Tie as tie
 
 abbrev Inv-loop : tie.InvT-loop
 Inv-loop out₀ waiting words now₀ i₀ out now i = (i ≤ length words) × (length out ≡ length out₀)
