@@ -13,7 +13,9 @@ use Rattle.space.specs.declared.Mapping.{Mapping}
 use Rattle.space.specs.declared.Space.{Space}
 use Rattle.space_slots.specs.Slots.{Places, MappingSlots}
 use Rattle.space_check.specs.Clauses.{GoodRegions, GoodMappings}
-use Rattle.space_pairs.specs.Pairs.{BothClear}
+use Rattle.space_parts.specs.Parts.{Fitting}
+use Rattle.space_parts.proofs.Meets.{fitting}
+use Rattle.space.proofs.Facts.{region-end}
 
 -- a list, by its places and by what its slots say
 module _ {n : ℕ} {list : List ℕ} {count : ℕ} {lives : ℕ → Bool} (size : length list ≡ n) where
@@ -40,9 +42,12 @@ module _ {n : ℕ} {list : List ℕ} {count : ℕ} {lives : ℕ → Bool} (size 
     rest = λ k l h. p .rest k l (omega arith);
   }
 
+pub blank-of : {s : Space} {flags : List ℕ} → GoodRegions s → GoodMappings s flags → Blank s
+blank-of r m = record { region = λ i l. r .slots i l .blank; mapping = λ i l. m .slots i l .blank }
+
 module _ {s : Space} {flags : List ℕ} (32-long : length (s .reglist) ≡ 32) (64-long : length (s .maplist) ≡ 64) where
-  pub whole : GoodRegions s → GoodMappings s flags → BothClear s → Passes s flags
-  whole r m b = record {
+  pub whole : GoodRegions s → GoodMappings s flags → Apart s → Passes s flags
+  whole r m a = record {
     lent = m .lent;
     regions = regions;
     mappings = listed 64-long (m .places) (λ i l. m .slots i l .listed) (λ i l. m .slots i l .unlisted);
@@ -56,16 +61,12 @@ module _ {s : Space} {flags : List ℕ} (32-long : length (s .reglist) ≡ 32) (
       region = λ i l a. (m .slots i l .good a .slot, m .slots i l .good a .live);
       mapping = λ i l a. m .slots i l .good a .inner;
     };
-    apart = record {
-      children = λ i j l h a c. r .clear i h j l .apart a c;
-      mappings = λ i j l h. m .clear i h j l;
-      both = λ i j l h. b i l j h;
-    };
+    apart = a;
     paged = λ i l a. m .slots i l .good a .paged;
     pages = m .pages;
     known = record { region = λ i l a. r .slots i l .good a .known; mapping = λ i l a. m .slots i l .good a .known };
-    ids = record { most = r .most; issued = λ i l a. r .slots i l .good a .issued; distinct = λ i j l h a c. r .clear i h j l .ids a c };
-    blank = record { region = λ i l. r .slots i l .blank; mapping = λ i l. m .slots i l .blank };
+    ids = record { most = r .most; issued = λ i l a. r .slots i l .good a .issued; distinct = λ i j l h. r .ids i h j l };
+    blank = blank-of r m;
   }
     where
       regions : Listed 32 (s .reglist) (s .regcount) (isRegion s)
@@ -80,6 +81,7 @@ module _ {s : Space} {flags : List ℕ} (32-long : length (s .reglist) ≡ 32) (
       good = λ a. record {
         known = p .known .region i l a;
         issued = p .ids .issued i l a;
+        end = region-end p i l a;
         slot = parent-slot i (p .regions .whole i l a);
         range = range i (p .regions .whole i l a);
         inner = p .inner .child i l a;
@@ -88,7 +90,7 @@ module _ {s : Space} {flags : List ℕ} (32-long : length (s .reglist) ≡ 32) (
       blank = p .blank .region i l;
     };
     tree = λ k l. record { root = p .tree .root k l; below = p .tree .parent k l };
-    clear = λ i h j l. record { ids = p .ids .distinct i j l h; apart = p .apart .children i j l h };
+    ids = λ i h j l. p .ids .distinct i j l h;
   }
     where
       range : (i : ℕ) → In (s .reglist) (s .regcount) i → regionAt s i .parent ≡ 32 → RootRange (regionAt s i .addr) (regionAt s i .size)
@@ -126,12 +128,8 @@ module _ {s : Space} {flags : List ℕ} (32-long : length (s .reglist) ≡ 32) (
       unlisted = λ n m. clash _ (p .mappings .live i l m) n;
       blank = p .blank .mapping i l;
     };
-    clear = λ i h j l. p .apart .mappings i j l h;
     pages = p .pages;
   }
-
-  pub both-of : Passes s flags → BothClear s
-  both-of p = λ i l j h. p .apart .both i j l h
 
 -- a slot has at most 512 pages, a free one none
 pub few : (s : Space) → MappingSlots s → (i : ℕ) → i < 64 → mappingAt s i .size / 4096 ≤ 512
@@ -140,3 +138,6 @@ few s m i l = by (mappingAt s i .live) refl
     by : (b : Bool) → mappingAt s i .live ≡ b → mappingAt s i .size / 4096 ≤ 512
     by true e = m i l .good e .paged .few
     by false e = let z = ap (λ (x : Mapping). x .size) (m i l .blank e) in omega arith
+
+pub fitting-of : (s : Space) (flags : List ℕ) → GoodRegions s → GoodMappings s flags → Fitting s
+fitting-of s flags r m = fitting s (blank-of r m) (λ i l a. r .slots i l .good a .end) (λ i l a. m .slots i l .good a .paged .end)

@@ -5,7 +5,7 @@ use mathlib.Core.List.{List}
 use lib.ListN.{length}
 use Rattle.space.specs.declared.Space.{Space}
 use Rattle.space_slots.specs.Slots.{Places, RegionSlots, TreePlaces, MappingSlots}
-use Rattle.space_pairs.specs.Pairs.{RegionsClear, MappingsClear}
+use Rattle.space_pairs.specs.Pairs.{IdsDistinct}
 use Rattle.space_pages.specs.Pages.{AllPages}
 
 -- the halves of the check
@@ -14,11 +14,10 @@ pub record GoodRegions (s : Space) : Type 0 where
   pub places : Places (s .reglist) (s .regcount)
   pub slots : RegionSlots s
   pub tree : TreePlaces s
-  pub clear : RegionsClear s
+  pub ids : IdsDistinct s
 
 pub record GoodMappings (s : Space) (flags : List ℕ) : Type 0 where
   pub lent : length flags ≡ 32768
   pub places : Places (s .maplist) (s .mapcount)
   pub slots : MappingSlots s
-  pub clear : MappingsClear s
   pub pages : AllPages s flags

@@ -22,7 +22,7 @@ fn are_regions_good(s: Space) -> bool
     if !space_slots::is_tree(s) {
         return false;
     }
-    space_pairs::are_regions_clear(s)
+    space_pairs::are_ids_distinct(s)
 }
 
 // Whether the mappings pass: list, slots, page flags.
@@ -39,9 +39,6 @@ fn are_mappings_good(s: Space, flags: &[u8]) -> bool
     if !space_slots::are_mapping_slots(s) {
         return false;
     }
-    if !space_pairs::are_mappings_clear(s) {
-        return false;
-    }
     space_pages::are_all_pages(s, flags)
 }
 
@@ -55,5 +52,5 @@ pub fn is_good(s: Space, flags: &[u8]) -> bool
     if !are_mappings_good(s, flags) {
         return false;
     }
-    space_pairs::are_both_clear(s)
+    space_pairs::are_parts_apart(s)
 }

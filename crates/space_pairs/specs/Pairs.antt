@@ -1,31 +1,23 @@
--- What is asked of two regions, two mappings, and a region and a mapping, for the proof of the check. What it decides as a whole is Passes, of crate space.
+-- What is asked of two regions and of two parts, for the proof of the check. What it decides as a whole is Passes, of crate space.
 use Prim.Native.Nat.{ℕ, _<_}
 use mathlib.Core.Path.{_≡_}
 use mathlib.Core.Bool.{true, false}
-use Rattle.space.specs.Range.{overlap}
-use Rattle.space.specs.Space.{regionAt, mappingAt}
+use mathlib.Core.List.{List}
+use lib.ListN.{getD}
+use Rattle.space.specs.Space.{regionAt}
 use Rattle.space.specs.declared.Region.{Region}
-use Rattle.space.specs.declared.Mapping.{Mapping}
 use Rattle.space.specs.declared.Space.{Space}
+use Rattle.space_parts.specs.Parts.{meet}
 
--- two regions
-pub record RegionsApart (g h : Region) : Type 0 where
-  pub ids : g .live ≡ true → h .live ≡ true → g .id ≡ h .id → ⊥
-  pub apart : g .live ≡ true → h .live ≡ true → g .parent ≡ h .parent → overlap (g .addr) (g .size) (h .addr) (h .size) ≡ false
+abbrev pub IdsDiffer : Region → Region → Type 0
+IdsDiffer g h = g .live ≡ true → h .live ≡ true → g .id ≡ h .id → ⊥
 
-abbrev pub RegionsClear : Space → Type 0
-RegionsClear s = (i : ℕ) → i < 32 → (j : ℕ) → j < i → RegionsApart (regionAt s i) (regionAt s j)
+abbrev pub IdsDistinct : Space → Type 0
+IdsDistinct s = (i : ℕ) → i < 32 → (j : ℕ) → j < i → IdsDiffer (regionAt s i) (regionAt s j)
 
--- two mappings
-abbrev pub MappingsApart : Mapping → Mapping → Type 0
-MappingsApart m n = m .live ≡ true → n .live ≡ true → m .region ≡ n .region → overlap (m .addr) (m .size) (n .addr) (n .size) ≡ false
+-- what stands at places j and i does not overlap, where it belongs to one region
+abbrev pub PlacesApart : List ℕ → List ℕ → List ℕ → ℕ → ℕ → Type 0
+PlacesApart owners begins ends j i = getD owners j 0 ≡ getD owners i 0 → meet (getD begins j 0) (getD ends j 0) (getD begins i 0) (getD ends i 0) ≡ false
 
-abbrev pub MappingsClear : Space → Type 0
-MappingsClear s = (i : ℕ) → i < 64 → (j : ℕ) → j < i → MappingsApart (mappingAt s i) (mappingAt s j)
-
--- a region and a mapping
-abbrev pub BothApart : Region → Mapping → Type 0
-BothApart g m = g .live ≡ true → m .live ≡ true → g .parent ≡ m .region → overlap (g .addr) (g .size) (m .addr) (m .size) ≡ false
-
-abbrev pub BothClear : Space → Type 0
-BothClear s = (i : ℕ) → i < 32 → (j : ℕ) → j < 64 → BothApart (regionAt s i) (mappingAt s j)
+abbrev pub AllApart : List ℕ → List ℕ → List ℕ → Type 0
+AllApart owners begins ends = (i : ℕ) → i < 96 → (j : ℕ) → j < i → PlacesApart owners begins ends j i

@@ -1,31 +1,30 @@
-// Of BAD_SPACE: ids are distinct, and no two parts of a region overlap. A space goes by value, so that an inner loop must not hand it on.
-use space::MAPPINGS;
-use space::Mapping;
+// Of BAD_SPACE: ids are distinct, and no two parts of a region overlap. A space goes by value, so that an inner loop must not hand it on: ranges are compared in numbers.
 use space::REGIONS;
 use space::Region;
 use space::Space;
+use space_parts::PARTS;
+ghost use mathlib.Core.Path.{_≡_};
+ghost use lib.ListN.{length};
 ghost use Rattle.paging.specs.Choice.{Decided};
-ghost use Rattle.space_pairs.specs.Pairs.{RegionsApart, RegionsClear, MappingsApart, MappingsClear, BothApart, BothClear};
+ghost use Rattle.space.specs.Passes.{Apart, Blank};
+ghost use Rattle.space_parts.specs.Parts.{Fitting};
+ghost use Rattle.space_pairs.specs.Pairs.{IdsDiffer, IdsDistinct, AllApart};
 
-// Two live regions have different ids, and do not overlap under one parent.
-fn are_regions_apart(g: Region, h: Region) -> bool
-    ensures { λ r. ⌜ Decided (RegionsApart g h) r ⌝ }
+// Whether two regions, if they live, have different ids.
+fn do_ids_differ(g: Region, h: Region) -> bool
+    ensures { λ r. ⌜ Decided (IdsDiffer g h) r ⌝ }
 {
-    if g.live {
-        if h.live {
-            if g.id == h.id {
-                return false;
-            }
-            if g.parent == h.parent {
-                return !space::overlap(g.addr, g.size, h.addr, h.size);
-            }
-        }
+    if !g.live {
+        return true;
     }
-    true
+    if !h.live {
+        return true;
+    }
+    g.id != h.id
 }
 
-pub fn are_regions_clear(s: Space) -> bool
-    ensures { λ r. ⌜ Decided (RegionsClear s) r ⌝ }
+pub fn are_ids_distinct(s: Space) -> bool
+    ensures { λ r. ⌜ Decided (IdsDistinct s) r ⌝ }
 {
     let mut i = 0;
     while i < REGIONS {
@@ -33,7 +32,7 @@ pub fn are_regions_clear(s: Space) -> bool
         let mut j = 0;
         while j < i {
             let h = s.regions[j];
-            if !are_regions_apart(g, h) {
+            if !do_ids_differ(g, h) {
                 return false;
             }
             j += 1;
@@ -43,30 +42,24 @@ pub fn are_regions_clear(s: Space) -> bool
     true
 }
 
-fn are_mappings_apart(m: Mapping, n: Mapping) -> bool
-    ensures { λ r. ⌜ Decided (MappingsApart m n) r ⌝ }
-{
-    if m.live {
-        if n.live {
-            if m.region == n.region {
-                return !space::overlap(m.addr, m.size, n.addr, n.size);
-            }
-        }
-    }
-    true
-}
-
-pub fn are_mappings_clear(s: Space) -> bool
-    ensures { λ r. ⌜ Decided (MappingsClear s) r ⌝ }
+// Whether no two parts of one region overlap.
+fn are_all_apart(owners: &[usize], begins: &[u64], ends: &[u64]) -> bool
+    requires { ⌜ (length (now owners) ≡ 96) × (length (now begins) ≡ 96) × (length (now ends) ≡ 96) ⌝ }
+    ensures { λ r. ⌜ Decided (AllApart (now (owners .entry)) (now (begins .entry)) (now (ends .entry))) r ⌝ }
 {
     let mut i = 0;
-    while i < MAPPINGS {
-        let m = s.mappings[i];
+    while i < PARTS {
+        let owner = owners[i];
+        let begin = begins[i];
+        let end = ends[i];
         let mut j = 0;
         while j < i {
-            let n = s.mappings[j];
-            if !are_mappings_apart(m, n) {
-                return false;
+            if begin < ends[j] {
+                if begins[j] < end {
+                    if owners[j] == owner {
+                        return false;
+                    }
+                }
             }
             j += 1;
         }
@@ -75,34 +68,13 @@ pub fn are_mappings_clear(s: Space) -> bool
     true
 }
 
-fn are_both_apart(g: Region, m: Mapping) -> bool
-    ensures { λ r. ⌜ Decided (BothApart g m) r ⌝ }
+pub fn are_parts_apart(s: Space) -> bool
+    requires { ⌜ Fitting s × Blank s ⌝ }
+    ensures { λ r. ⌜ Decided (Apart s) r ⌝ }
 {
-    if g.live {
-        if m.live {
-            if g.parent == m.region {
-                return !space::overlap(g.addr, g.size, m.addr, m.size);
-            }
-        }
-    }
-    true
-}
-
-pub fn are_both_clear(s: Space) -> bool
-    ensures { λ r. ⌜ Decided (BothClear s) r ⌝ }
-{
-    let mut i = 0;
-    while i < REGIONS {
-        let g = s.regions[i];
-        let mut j = 0;
-        while j < MAPPINGS {
-            let m = s.mappings[j];
-            if !are_both_apart(g, m) {
-                return false;
-            }
-            j += 1;
-        }
-        i += 1;
-    }
-    true
+    let parts = space_parts::parts_of(s);
+    let owners = parts.owners;
+    let begins = parts.begins;
+    let ends = parts.ends;
+    are_all_apart(&owners, &begins, &ends)
 }

@@ -14,6 +14,7 @@ other : {g p q : Region} {n : ℕ} → (g .parent < 32 → p ≡ q) → GoodRegi
 other {g} same r = record {
   known = r .known;
   issued = r .issued;
+  end = r .end;
   slot = r .slot;
   range = r .range;
   inner = λ e. subst (λ (x : Region). inside (g .addr) (g .size) (x .addr) (x .size) ≡ true) (same (below (r .slot) e)) (r .inner e);

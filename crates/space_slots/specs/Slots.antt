@@ -1,5 +1,5 @@
 -- What is asked of the lists, the slots and the tree, for the proof of the check. What the check decides as a whole is Passes, of crate space.
-use Prim.Native.Nat.{ℕ, _≤_, _<_}
+use Prim.Native.Nat.{ℕ, _+_, _^_, _≤_, _<_}
 use mathlib.Core.Path.{_≡_}
 use mathlib.Core.Bool.{true, false}
 use mathlib.Core.List.{List}
@@ -19,10 +19,11 @@ pub record Places (list : List ℕ) (count : ℕ) : Type 0 where
   pub once : (k : ℕ) → k < count → In list k (getD list k 0) → ⊥
   pub rest : (k : ℕ) → count ≤ k → k < length list → getD list k 0 ≡ 0
 
--- a live region, and its parent's record
+-- a live region, and its parent's record; that it ends below 2^64 follows from the whole, since the root does
 pub record GoodRegion (g p : Region) (nextid : ℕ) : Type 0 where
   pub known : knownRegion (g .flags) ≡ true
   pub issued : g .id < nextid
+  pub end : g .addr + g .size < 2 ^ 64
   pub slot : g .parent ≤ 32
   pub range : g .parent ≡ 32 → RootRange (g .addr) (g .size)
   pub inner : (g .parent ≡ 32 → ⊥) → inside (g .addr) (g .size) (p .addr) (p .size) ≡ true

@@ -140,6 +140,9 @@ fn is_good_region(g: Region, p: Region, nextid: u64) -> bool
     if nextid <= g.id {
         return false;
     }
+    if !space::sum_le(g.addr, g.size, LAST) {
+        return false;
+    }
     if g.parent == NO_REGION {
         return is_root_range(g.addr, g.size);
     }

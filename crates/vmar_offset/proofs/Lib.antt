@@ -1,2 +1,3 @@
 pub mod Offsets
 pub mod Found
+pub mod Free

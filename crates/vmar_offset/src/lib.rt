@@ -1,14 +1,20 @@
 // zircon-object/src/vm/vmar.rs: `determine_offset`, `find_free_area` and `test_map`, on a space that passes its check; and
 // which slots a call takes: that of an id, the lowest free one.
+use common::defs::VirtAddr;
 use refusal::Refusal;
 use space::MAPPINGS;
 use space::Mapping;
 use space::REGIONS;
 use space::Region;
 use space::Space;
+use space_parts::PARTS;
 ghost use mathlib.Core.Path.{_≡_};
+ghost use Prim.Native.Nat.{_+_, _^_, _<_};
+ghost use lib.ListN.{length};
+ghost use Rattle.scan.specs.Scan.{some};
 ghost use Rattle.space.specs.Passes.{LiveIn};
 ghost use Rattle.vmar_offset.specs.Offset.{hasId, slotOf, freeRegion, freeMapping, childMeets, mappingMeets, testMap, findFreeArea, determineOffset};
+ghost use Rattle.vmar_offset.specs.Fit.{meetsAt, fits};
 
 // An offset into a region, or none: the Rust's `Option<usize>`.
 pub enum Offset {
@@ -102,33 +108,63 @@ pub fn mapping_meets(m: Mapping, r: usize, begin: u64, len: u64) -> bool
     space::overlap(m.addr, m.size, begin, len)
 }
 
+// Whether [begin, end) overlaps a child or a mapping of region r.
+fn is_met(
+    owners: &[usize],
+    begins: &[u64],
+    ends: &[u64],
+    r: usize,
+    begin: VirtAddr,
+    end: VirtAddr,
+) -> bool
+    requires { ⌜ (length (now owners) ≡ 96) × (length (now begins) ≡ 96) × (length (now ends) ≡ 96) ⌝ }
+    ensures { λ x. ⌜ x ≡ some (meetsAt (now (owners .entry)) (now (begins .entry)) (now (ends .entry)) r begin end) 0 96 ⌝ }
+{
+    let mut i = 0;
+    while i < PARTS {
+        if begin < ends[i] {
+            if begins[i] < end {
+                if owners[i] == r {
+                    return true;
+                }
+            }
+        }
+        i += 1;
+    }
+    false
+}
+
+// Whether something of this length can be made at the offset of region r, whose record is g.
+fn fits(
+    owners: &[usize],
+    begins: &[u64],
+    ends: &[u64],
+    r: usize,
+    g: Region,
+    offset: u64,
+    len: u64,
+) -> bool
+    requires { ⌜ (length (now owners) ≡ 96) × (length (now begins) ≡ 96) × (length (now ends) ≡ 96) × (g .addr + g .size < 2 ^ 64) ⌝ }
+    ensures { λ x. ⌜ x ≡ fits (now (owners .entry)) (now (begins .entry)) (now (ends .entry)) r g offset len ⌝ }
+{
+    if !space::sum_le(offset, len, g.size) {
+        return false;
+    }
+    let begin = g.addr + offset;
+    !is_met(owners, begins, ends, r, begin, begin + len)
+}
+
 // Whether something of this length can be made at the offset of region r.
 pub fn test_map(s: Space, r: usize, offset: u64, len: u64) -> bool
     requires { ⌜ LiveIn s r ⌝ }
     ensures { λ x. ⌜ x ≡ testMap s r offset len ⌝ }
 {
     let g = s.regions[r];
-    if !space::sum_le(offset, len, g.size) {
-        return false;
-    }
-    let begin = g.addr + offset;
-    let mut i = 0;
-    while i < REGIONS {
-        let child = s.regions[i];
-        if child_meets(child, r, begin, len) {
-            return false;
-        }
-        i += 1;
-    }
-    let mut j = 0;
-    while j < MAPPINGS {
-        let m = s.mappings[j];
-        if mapping_meets(m, r, begin, len) {
-            return false;
-        }
-        j += 1;
-    }
-    true
+    let parts = space_parts::parts_of(s);
+    let owners = parts.owners;
+    let begins = parts.begins;
+    let ends = parts.ends;
+    fits(&owners, &begins, &ends, r, g, offset, len)
 }
 
 // The first offset at which something of this length can be made: 0, the ends of children, the ends of mappings.
@@ -136,10 +172,14 @@ fn find_free_area(s: Space, r: usize, len: u64, align: u64) -> Offset
     requires { ⌜ LiveIn s r ⌝ }
     ensures { λ x. ⌜ x ≡ findFreeArea s r len align ⌝ }
 {
-    if test_map(s, r, 0, len) {
+    let g = s.regions[r];
+    let parts = space_parts::parts_of(s);
+    let owners = parts.owners;
+    let begins = parts.begins;
+    let ends = parts.ends;
+    if fits(&owners, &begins, &ends, r, g, 0, len) {
         return Offset::Some(0);
     }
-    let g = s.regions[r];
     let reglist = s.reglist;
     let mut k = 0;
     while k < s.regcount {
@@ -153,7 +193,7 @@ fn find_free_area(s: Space, r: usize, len: u64, align: u64) -> Offset
         if !vm::check_aligned(offset, align) {
             continue;
         }
-        if test_map(s, r, offset, len) {
+        if fits(&owners, &begins, &ends, r, g, offset, len) {
             return Offset::Some(offset);
         }
     }
@@ -170,7 +210,7 @@ fn find_free_area(s: Space, r: usize, len: u64, align: u64) -> Offset
         if !vm::check_aligned(offset, align) {
             continue;
         }
-        if test_map(s, r, offset, len) {
+        if fits(&owners, &begins, &ends, r, g, offset, len) {
             return Offset::Some(offset);
         }
     }

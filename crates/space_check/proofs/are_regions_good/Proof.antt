@@ -5,7 +5,7 @@ use lib.ListN.{length}
 use borrow.Author.Tests.{not-true, not-false}
 use Rattle.paging.proofs.Cases.{decided-true, decided-false, decide-by}
 use Rattle.space_slots.specs.Slots.{Places}
-use Rattle.space_pairs.specs.Pairs.{RegionsClear}
+use Rattle.space_pairs.specs.Pairs.{IdsDistinct}
 use Rattle.space_check.specs.Clauses.{GoodRegions}
 use borrow.Author.Needs.{needs}
 use Rattle.space_check.proofs.are_regions_good.Statement.{statement}
@@ -44,8 +44,8 @@ is-tree-requires c κs =
 returns-4 : tie.Need-returns-4
 returns-4 c = λ g. decided-false _ (c .before .is-tree .result) (c .before .is-tree .ensures) (not-true _ (c .if4 .taken)) (g .tree)
 
-are-regions-clear-requires : tie.Need-are-regions-clear-requires
-are-regions-clear-requires c κs = search needs
+are-ids-distinct-requires : tie.Need-are-ids-distinct-requires
+are-ids-distinct-requires c κs = search needs
 
 returns-5 : tie.Need-returns-5
 returns-5 c =
@@ -54,16 +54,16 @@ returns-5 c =
     let is-list = c .before .before .before .before .before .before .is-list in
     let if2 = c .before .before .before .before .before .if2 in
     let are-region-slots = c .before .before .before .before .are-region-slots in
-    decide-by (GoodRegions (a .s)) (RegionsClear (a .s)) (c .are-regions-clear .result)
+    decide-by (GoodRegions (a .s)) (IdsDistinct (a .s)) (c .are-ids-distinct .result)
     (λ d. record {
       most = omega (arith, if1 .left);
       places = decided-true _ (is-list .result) (is-list .ensures) (not-false _ (if2 .left));
       slots = decided-true _ (are-region-slots .result) (are-region-slots .ensures) (not-false _ (c .before .before .before .if3 .left));
       tree = decided-true _ (c .before .before .is-tree .result) (c .before .before .is-tree .ensures) (not-false _ (c .before .if4 .left));
-      clear = d;
+      ids = d;
     })
-    (λ g. g .clear)
-    (c .are-regions-clear .ensures)
+    (λ g. g .ids)
+    (c .are-ids-distinct .ensures)
 
 pub are-regions-good-spec : {M : Type 1} → statement M
 are-regions-good-spec =
@@ -77,5 +77,5 @@ are-regions-good-spec =
     returns-3
     is-tree-requires
     returns-4
-    are-regions-clear-requires
+    are-ids-distinct-requires
     returns-5)
