@@ -42,7 +42,7 @@ pub fn are_ids_distinct(s: Space) -> bool
     true
 }
 
-// Whether no two parts of one region overlap.
+// Whether no two parts of one region overlap. Most parts end before those that were made after them: that is tested first.
 fn are_all_apart(owners: &[usize], begins: &[u64], ends: &[u64]) -> bool
     requires { ⌜ (length (now owners) ≡ 96) × (length (now begins) ≡ 96) × (length (now ends) ≡ 96) ⌝ }
     ensures { λ r. ⌜ Decided (AllApart (now (owners .entry)) (now (begins .entry)) (now (ends .entry))) r ⌝ }

@@ -108,7 +108,7 @@ pub fn mapping_meets(m: Mapping, r: usize, begin: u64, len: u64) -> bool
     space::overlap(m.addr, m.size, begin, len)
 }
 
-// Whether [begin, end) overlaps a child or a mapping of region r.
+// Whether [begin, end) overlaps a child or a mapping of region r. Most parts end before a place that is tried: that is tested first.
 fn is_met(
     owners: &[usize],
     begins: &[u64],
