@@ -12,6 +12,9 @@ import traces
 TOP = os.path.dirname(os.path.dirname(os.path.dirname(os.path.abspath(__file__))))
 BUILDS = ("release", "debug")
 
+# A chunk takes a few; a program that needs more does not end.
+SECONDS = 300
+
 
 class Side:
     """A program's input, and what is expected of its output."""
@@ -151,7 +154,11 @@ class Chunk:
         failures = []
         for name, command in programs.items():
             side = self.sides[name]
-            done = subprocess.run(command, input="".join(l + "\n" for l in side.input).encode(), stdout=subprocess.PIPE)
+            try:
+                done = subprocess.run(command, input="".join(l + "\n" for l in side.input).encode(), stdout=subprocess.PIPE, timeout=SECONDS)
+            except subprocess.TimeoutExpired:
+                failures.append("%s: not ended after %d seconds" % (name, SECONDS))
+                continue
             got = done.stdout.decode().splitlines()
             if done.returncode != 0 or len(got) != len(side.expected):
                 failures.append("%s: ended with %d after %d of %d answers" % (name, done.returncode, len(got), len(side.expected)))
