@@ -10,7 +10,7 @@ pub type VirtAddr = u64;
 pub const PAGE_SIZE: u64 = 0x1000;
 
 // Page flags. A set of them is the sum of its members.
-#[derive(Drop)]
+#[derive(Clone, Copy)]
 pub struct MMUFlags(pub u64);
 
 impl MMUFlags {
@@ -46,7 +46,7 @@ impl MMUFlags {
 }
 
 // Region flags, which say what a region allows of its children and mappings.
-#[derive(Drop)]
+#[derive(Clone, Copy)]
 pub struct VmarFlags(pub u64);
 
 impl VmarFlags {

@@ -4,7 +4,7 @@ ghost use Rattle.common.specs.Page.{size_of, aligned, is_huge};
 
 use crate::defs::VirtAddr;
 
-#[derive(Drop)]
+#[derive(Clone, Copy)]
 pub enum PageSize {
     Size4K,
     Size2M,

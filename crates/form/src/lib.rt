@@ -2,6 +2,8 @@
 //
 // A frame's rank is one more than its level, and 0 while no entry is known to reach it. The frames are read by falling rank, so that a
 // frame's rank is known before its words are read, and each frame has one turn.
+#![tactic(auto)]
+
 ghost use Rattle.std.specs.Prelude.{◌≡◌, true, ◌+◌, ◌-◌, ◌*◌, ◌/◌, ◌%◌, ◌<◌, ◌≤◌, length};
 ghost use Rattle.paging.specs.Choice.{Decided};
 ghost use Rattle.form.specs.Form.{WellFormed, Sized, Good};
@@ -23,7 +25,7 @@ const ALL: u64 = 0xffff_ffff_ffff_ffff;
 const ROOT_RANK: usize = 4;
 
 // Bits that leaves of one level have in common, and what they are.
-#[derive(Drop)]
+#[derive(Clone, Copy)]
 struct LeafBits {
     mask: u64,
     tag: u64,
@@ -105,7 +107,7 @@ fn sweep_entry(at: &mut [usize], base: u64, used: usize, rank: usize, w: u64) ->
 
 // What any word does. Most are 0 or told at once.
 fn sweep_word(at: &mut [usize], base: u64, used: usize, rank: usize, bits: LeafBits, w: u64) -> bool
-    requires at_len { (length at.old ≡ 1024) × (used ≤ 1024) × (0 < rank) × (base % 4096 ≡ 0) }
+    requires sizes { (length at.old ≡ 1024) × (used ≤ 1024) × (0 < rank) × (base % 4096 ≡ 0) }
     requires sure { Sure (rank - 1) bits.mask bits.tag }
     ensures { Step (base / 4096) used rank w at.old at.new result }
 {
@@ -129,7 +131,7 @@ fn sweep_frame(
     frame: usize,
 ) -> bool
     requires sized { Sized (length pool.now) base used }
-    requires frame_lt_used { (frame < used) × (0 < rank) }
+    requires in_use { (frame < used) × (0 < rank) }
     requires sweep { Sweep pool.now (base / 4096) used at.old rank (frame * 512) }
     ensures { Swept pool.now (base / 4096) used at.new rank (frame * 512 + 512) result }
 {
@@ -154,7 +156,7 @@ fn sweep_frame(
 // Reads the frames of one rank.
 fn sweep_rank(pool: &[u64], at: &mut [usize], base: u64, used: usize, rank: usize) -> bool
     requires sized { Sized (length pool.now) base used }
-    requires rank_nonzero { 0 < rank }
+    requires rank_left { 0 < rank }
     requires sweep { Sweep pool.now (base / 4096) used at.old rank 0 }
     ensures { Swept pool.now (base / 4096) used at.new rank (used * 512) result }
 {

@@ -1,4 +1,6 @@
 // BAD_TABLE's test for C to call, so that tests/bench can time it.
+#![tactic(auto)]
+
 ghost use Rattle.paging.specs.Choice.{Answered};
 ghost use Rattle.form.specs.Form.{Good};
 

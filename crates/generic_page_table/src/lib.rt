@@ -1,5 +1,7 @@
 // kernel-hal/src/common/vm.rs: the range calls of `GenericPageTable` on any pool and any argument. Each tests what it takes, in document 01's order, and
 // then calls its core; a refused call changes no word.
+#![tactic(auto)]
+
 ghost use Rattle.std.specs.Prelude.{◌≡◌};
 ghost use Rattle.generic_page_table.specs.Rules.{rule_end, range_in_rule, page_aligned, physical_fits};
 ghost use Rattle.generic_page_table.specs.Calls.{MapContFits, UnmapContFits};
@@ -61,7 +63,7 @@ pub fn map_cont(
     paddr: PhysAddr,
     flags: MMUFlags,
 ) -> MapResult
-    ensures* { λ r. ⌜ MapContFits pool.old base used vaddr size paddr flags.0 (record { result = r; pool = pool.new }) ⌝ }
+    ensures { MapContFits pool.old base used vaddr size paddr flags.0 (record { result = result; pool = pool.new }) }
 {
     if !form::is_good(pool, base, used) {
         return MapResult::Refused(Refusal::BadTable);
@@ -89,7 +91,7 @@ pub fn unmap_cont(
     vaddr: VirtAddr,
     size: u64,
 ) -> UnmapContResult
-    ensures* { λ r. ⌜ UnmapContFits pool.old base used vaddr size (record { result = r; pool = pool.new }) ⌝ }
+    ensures { UnmapContFits pool.old base used vaddr size (record { result = result; pool = pool.new }) }
 {
     if !form::is_good(pool, base, used) {
         return UnmapContResult::Refused(Refusal::BadTable);

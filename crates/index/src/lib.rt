@@ -1,4 +1,6 @@
 // kernel-hal/src/utils/page_table.rs: the place of an address in each table on its way.
+#![tactic(auto)]
+
 ghost use Rattle.std.specs.Prelude.{◌≡◌, ◌/◌, ◌%◌, ◌^◌, ◌<◌};
 ghost use Rattle.paging.specs.Level.{index};
 

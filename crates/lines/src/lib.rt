@@ -1,4 +1,6 @@
 // The lines that the programs write: names, numbers, and the sum of a pool's words, by which a refusal is seen to leave them.
+#![tactic(auto)]
+
 use libc::STDOUT_FILENO;
 use std::num::wrapping_add_u64;
 

@@ -1,1 +1,2 @@
 // Document 01's numbers to meet: definitions and one theorem only.
+#![tactic(auto)]

@@ -1,5 +1,7 @@
 // kernel-hal/src/utils/page_table.rs: `map`, `unmap`, `update` and `query` on any pool and any argument. Each tests what it takes, in document 01's
 // order, and then calls its core; a refused call changes no word.
+#![tactic(auto)]
+
 ghost use Rattle.std.specs.Prelude.{◌≡◌};
 ghost use Rattle.page_table.specs.Calls.{in_rule, placed, known_new, QueryFits, UnmapFits, UpdateFits, MapFits};
 
@@ -54,7 +56,7 @@ pub fn query(pool: &[u64], base: u64, used: usize, vaddr: VirtAddr) -> QueryResu
 }
 
 pub fn unmap(pool: &mut [u64], base: u64, used: usize, vaddr: VirtAddr) -> UnmapResult
-    ensures* { λ r. ⌜ UnmapFits pool.old base used vaddr (record { result = r; pool = pool.new }) ⌝ }
+    ensures { UnmapFits pool.old base used vaddr (record { result = result; pool = pool.new }) }
 {
     if !form::is_good(pool, base, used) {
         return UnmapResult::Refused(Refusal::BadTable);
@@ -73,7 +75,7 @@ pub fn update(
     paddr: NewAddr,
     flags: NewFlags,
 ) -> UpdateResult
-    ensures* { λ r. ⌜ UpdateFits pool.old base used vaddr paddr flags (record { result = r; pool = pool.new }) ⌝ }
+    ensures { UpdateFits pool.old base used vaddr paddr flags (record { result = result; pool = pool.new }) }
 {
     if !form::is_good(pool, base, used) {
         return UpdateResult::Refused(Refusal::BadTable);
@@ -96,7 +98,7 @@ pub fn map(
     size: PageSize,
     flags: MMUFlags,
 ) -> MapResult
-    ensures* { λ r. ⌜ MapFits pool.old base used vaddr paddr size flags.0 (record { result = r; pool = pool.new }) ⌝ }
+    ensures { MapFits pool.old base used vaddr paddr size flags.0 (record { result = result; pool = pool.new }) }
 {
     if !form::is_good(pool, base, used) {
         return MapResult::Refused(Refusal::BadTable);

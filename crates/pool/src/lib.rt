@@ -1,4 +1,6 @@
 // The lent pool of frames, and parts of it: what stands in for the raw pointers of `table_of` and `table_of_mut`.
+#![tactic(auto)]
+
 ghost use Rattle.std.specs.Prelude.{◌≡◌, ◌+◌, ◌*◌, ◌<◌, ◌≤◌, length, set, replicate};
 ghost use Rattle.pool.specs.Pool.{frame_at, word, put_word, zeroed};
 

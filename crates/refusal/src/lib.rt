@@ -1,8 +1,10 @@
 // Why a call is refused: document 01's table. NotMapped, AlreadyMapped and NoFrames are the Rust's `PagingError`; NoFrames is its `NoMemory`.
+#![tactic(auto)]
+
 ghost use Rattle.std.specs.Prelude.{◌≡◌};
 ghost use Rattle.refusal.specs.Refusal.{number_of};
 
-#[derive(Drop)]
+#[derive(Clone, Copy)]
 pub enum Refusal {
     InvalidArgs,
     AccessDenied,

@@ -1,1 +1,2 @@
 // Scans of index ranges: definitions and laws, no code.
+#![tactic(auto)]

@@ -1,5 +1,7 @@
 // The space: who owns which addresses. Slots hold plain records; regions and mappings name the region that they belong to by its slot, and two
 // lists of slots keep the order in which the Rust's `children` and `mappings` stand. specs/Space draws it.
+#![tactic(auto)]
+
 ghost use Rattle.std.specs.Prelude.{◌≡◌, ◌+◌, ◌^◌, ◌<◌, leb};
 ghost use Rattle.space.specs.Space.{with_region, with_mapping};
 ghost use Rattle.space.specs.Range.{overlap, inside, contains};
@@ -32,7 +34,7 @@ pub const KERNEL_ASPACE_BASE: u64 = 0xffff_ff02_0000_0000;
 pub const KERNEL_ASPACE_SIZE: u64 = 0x80_0000_0000;
 
 // A slot is free or holds a live region.
-#[derive(Drop)]
+#[derive(Clone, Copy)]
 pub struct Region {
     pub live: bool,
     pub id: u64,
@@ -43,7 +45,7 @@ pub struct Region {
 }
 
 // A slot is free or holds a live mapping: a range of a VMO at a range of addresses. Its page flags stand in the slot's 512 lent bytes.
-#[derive(Drop)]
+#[derive(Clone, Copy)]
 pub struct Mapping {
     pub live: bool,
     pub region: usize,
@@ -54,7 +56,7 @@ pub struct Mapping {
     pub permissions: u64,
 }
 
-#[derive(Drop)]
+#[derive(Clone, Copy)]
 pub struct Space {
     pub regions: [Region; 32],
     pub mappings: [Mapping; 64],

@@ -1,4 +1,6 @@
 // Whether a space is one that calls work on (BAD_SPACE): lists, slots and tree (space_slots), ids and overlaps (space_pairs), page flags (space_pages).
+#![tactic(auto)]
+
 ghost use Rattle.paging.specs.Choice.{Decided};
 ghost use Rattle.space.specs.Passes.{Passes};
 ghost use Rattle.space_check.specs.Clauses.{GoodRegions, GoodMappings};

@@ -1,4 +1,6 @@
 // Of BAD_SPACE: the page flags of each mapping slot.
+#![tactic(auto)]
+
 ghost use Rattle.std.specs.Prelude.{◌≡◌, ℕ, ◌+◌, ◌*◌, ◌/◌, ◌<◌, ◌≤◌, length};
 ghost use Rattle.paging.specs.Choice.{Decided};
 ghost use Rattle.space.specs.Space.{mapping_at};

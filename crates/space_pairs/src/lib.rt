@@ -1,4 +1,6 @@
 // Of BAD_SPACE: ids are distinct, and no two parts of a region overlap. A space goes by value, so that an inner loop must not hand it on: ranges are compared in numbers.
+#![tactic(auto)]
+
 ghost use Rattle.std.specs.Prelude.{◌≡◌, length};
 ghost use Rattle.paging.specs.Choice.{Decided};
 ghost use Rattle.space.specs.Passes.{Apart, Blank};

@@ -1,5 +1,7 @@
 // Where everything in a space lies, in numbers: a place for each region slot, then one for each mapping slot. Arrays of numbers can be lent, so that a loop over parts hands
 // nothing on; a space that is handed on is copied.
+#![tactic(auto)]
+
 ghost use Rattle.space_parts.specs.Parts.{Fitting, PartsOf};
 
 use common::defs::VirtAddr;
@@ -9,7 +11,7 @@ use space::{MAPPINGS, REGIONS, Space};
 pub const PARTS: usize = 96;
 
 // The region that a part belongs to, and from where to where it lies. A free slot is blank and lies at [0, 0), which overlaps nothing.
-#[derive(Drop)]
+#[derive(Clone, Copy)]
 pub struct Parts {
     pub owners: [usize; 96],
     pub begins: [VirtAddr; 96],

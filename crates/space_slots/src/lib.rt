@@ -1,5 +1,7 @@
 // Of BAD_SPACE: the two lists, what each slot holds, and the tree. A space goes by value, so that an inner loop must not hand it on: each clause is one function
 // with its loops inside, and what is asked of one record is a function of records.
+#![tactic(auto)]
+
 ghost use Rattle.std.specs.Prelude.{◌≡◌, ℕ, ◌/◌, ◌<◌, ◌≤◌, length, get_or};
 ghost use Rattle.paging.specs.Choice.{Decided};
 ghost use Rattle.space.specs.Space.{blank_region, blank_mapping};

@@ -1,5 +1,7 @@
 // kernel-hal/src/utils/page_table.rs: `query`, `unmap` and `update` on a well-formed table. Nothing here tests the table or the
 // arguments: crate page_table does, and calls these.
+#![tactic(auto)]
+
 ghost use Rattle.std.specs.Prelude.{◌≡◌, ◌/◌};
 ghost use Rattle.form.specs.Form.{Good};
 ghost use Rattle.table.specs.Table.{queried, unmapped, updated, misplaced, new_addr, new_word};
@@ -10,21 +12,21 @@ use refusal::Refusal;
 use walk::Walk;
 use x86_64::vm::X86PTE;
 
-#[derive(Drop)]
+#[derive(Clone, Copy)]
 pub enum QueryResult {
     // The physical address of the byte, the flags and the size of its page.
     Page(PhysAddr, MMUFlags, PageSize),
     Refused(Refusal),
 }
 
-#[derive(Drop)]
+#[derive(Clone, Copy)]
 pub enum UnmapResult {
     // The address and the size of the leaf that is gone.
     Unmapped(PhysAddr, PageSize),
     Refused(Refusal),
 }
 
-#[derive(Drop)]
+#[derive(Clone, Copy)]
 pub enum UpdateResult {
     // The size of the leaf that was changed.
     Updated(PageSize),
@@ -32,14 +34,14 @@ pub enum UpdateResult {
 }
 
 // A new physical address, or the old one.
-#[derive(Drop)]
+#[derive(Clone, Copy)]
 pub enum NewAddr {
     To(PhysAddr),
     Keep,
 }
 
 // New page flags, or the old ones.
-#[derive(Drop)]
+#[derive(Clone, Copy)]
 pub enum NewFlags {
     To(MMUFlags),
     Keep,
@@ -61,7 +63,7 @@ pub fn query(pool: &[u64], base: u64, used: usize, vaddr: VirtAddr) -> QueryResu
 
 pub fn unmap(pool: &mut [u64], base: u64, used: usize, vaddr: VirtAddr) -> UnmapResult
     requires { Good pool.old base used }
-    ensures* { λ r. ⌜ record { result = r; pool = pool.new } ≡ unmapped pool.old (base / 4096) vaddr ⌝ }
+    ensures { record { result = result; pool = pool.new } ≡ unmapped pool.old (base / 4096) vaddr }
 {
     let Walk::Leaf(leaf) = walk::get_entry(pool, base, used, vaddr) else {
         return UnmapResult::Refused(Refusal::NotMapped);
@@ -117,7 +119,7 @@ pub fn update(
     flags: NewFlags,
 ) -> UpdateResult
     requires { Good pool.old base used }
-    ensures* { λ r. ⌜ record { result = r; pool = pool.new } ≡ updated pool.old (base / 4096) vaddr paddr flags ⌝ }
+    ensures { record { result = result; pool = pool.new } ≡ updated pool.old (base / 4096) vaddr paddr flags }
 {
     let Walk::Leaf(leaf) = walk::get_entry(pool, base, used, vaddr) else {
         return UpdateResult::Refused(Refusal::NotMapped);

@@ -1,1 +1,2 @@
 // What the four calls on a well-formed table mean: definitions and theorems only.
+#![tactic(auto)]

@@ -1,5 +1,7 @@
 // kernel-hal/src/utils/page_table.rs: `map`, with what it needs of `get_entry_mut_or_create`, on a well-formed table. Whether it can be done is
 // decided before anything is written: a refused map leaves every word as it was.
+#![tactic(auto)]
+
 ghost use Rattle.std.specs.Prelude.{◌≡◌, ◌+◌, ◌-◌, ◌*◌, ◌/◌, ◌≤◌, ◌<◌, length};
 ghost use Rattle.common.specs.Page.{level_of};
 ghost use Rattle.form.specs.Form.{Good};
@@ -11,7 +13,7 @@ use refusal::Refusal;
 use walk::{OpenEntry, Walk};
 use x86_64::vm::X86PTE;
 
-#[derive(Drop)]
+#[derive(Clone, Copy)]
 pub enum MapResult {
     // The frames in use afterwards.
     Mapped(usize),
@@ -38,7 +40,7 @@ fn create_table(
     spot: OpenEntry,
 ) -> OpenEntry
     requires room { Room (length pool.old) base spot }
-    requires level_nonzero { (0 < spot.level) × (next * 512 + 512 ≤ length pool.old) }
+    requires below { (0 < spot.level) × (next * 512 + 512 ≤ length pool.old) }
     ensures { (pool.new ≡ grown pool.old (base / 4096) next spot) × (result ≡ under next vaddr spot) }
 {
     let frame = spot.frame;
@@ -65,7 +67,7 @@ fn fill(
     word: u64,
 )
     requires room { Room (length pool.old) base spot }
-    requires target_le_level { (target ≤ spot.level) × ((next + (spot.level - target)) * 512 ≤ length pool.old) }
+    requires reached { (target ≤ spot.level) × ((next + (spot.level - target)) * 512 ≤ length pool.old) }
     ensures { pool.new ≡ filled (spot.level - target) pool.old (base / 4096) next vaddr spot word }
 {
     let level = spot.level;
@@ -89,7 +91,7 @@ pub fn map(
     flags: MMUFlags,
 ) -> MapResult
     requires { Good pool.old base used }
-    ensures* { λ r. ⌜ record { result = r; pool = pool.new } ≡ mapped pool.old (base / 4096) used vaddr paddr size flags.0 ⌝ }
+    ensures { record { result = result; pool = pool.new } ≡ mapped pool.old (base / 4096) used vaddr paddr size flags.0 }
 {
     let Walk::Open(spot) = walk::get_entry(pool, base, used, vaddr) else {
         return MapResult::Refused(Refusal::AlreadyMapped);

@@ -1,5 +1,7 @@
 // kernel-hal/src/common/vm.rs: `map_cont`, on a well-formed table and a range that was tested. The pages are counted on the table as it stands, and
 // written only if none fails: a refused call leaves every word as it was, and nothing has to be taken back.
+#![tactic(auto)]
+
 ghost use Rattle.std.specs.Prelude.{◌≡◌, ◌+◌, ◌-◌, ◌/◌, ◌≤◌, min, length};
 ghost use Rattle.form.specs.Form.{Good};
 ghost use Rattle.table_map_cont.specs.MapCont.{Range, top_level, fits, page_level, pages, map_cont};
@@ -91,7 +93,7 @@ fn count_page(
     target: usize,
 ) -> MapResult
     requires good { Good pool.now base used }
-    requires taken_in_bounds { (taken ≤ length pool.now / 512) × (target ≤ made) }
+    requires counted { (taken ≤ length pool.now / 512) × (target ≤ made) }
     ensures { result ≡ count_page pool.now (base / 4096) taken made vaddr target }
 {
     let Walk::Open(spot) = walk::get_entry(pool, base, used, vaddr) else {
@@ -156,7 +158,7 @@ fn map_pages(
 ) -> MapResult
     requires good { Good pool.old base used }
     requires range { Range from size to × (top ≤ 2) }
-    ensures* { λ r. ⌜ record { result = r; pool = pool.new } ≡ pages (size / 4096) pool.old (base / 4096) used from to size top flags.0 ⌝ }
+    ensures { record { result = result; pool = pool.new } ≡ pages (size / 4096) pool.old (base / 4096) used from to size top flags.0 }
 {
     let mut taken = used;
     let mut vaddr = from;
@@ -190,7 +192,7 @@ pub fn map_cont(
 ) -> MapResult
     requires good { Good pool.old base used }
     requires range { Range vaddr size paddr }
-    ensures* { λ r. ⌜ record { result = r; pool = pool.new } ≡ map_cont pool.old (base / 4096) used vaddr size paddr flags.0 ⌝ }
+    ensures { record { result = result; pool = pool.new } ≡ map_cont pool.old (base / 4096) used vaddr size paddr flags.0 }
 {
     let top = top_level(flags);
     let answer = count(pool, base, used, vaddr, size, paddr, top);

@@ -1,5 +1,7 @@
 // A leaf gives way to a table of its pieces, so that a range can be cut or changed from where it begins. The Rust unmaps the leaf and maps what
 // is kept of it again; what comes out is the same, word for word, once the rest is emptied.
+#![tactic(auto)]
+
 ghost use Rattle.std.specs.Prelude.{◌≡◌, ◌⊎◌, ◌+◌, ◌-◌, ◌*◌, ◌/◌, ◌%◌, ◌^◌, ◌≤◌, ◌<◌, length};
 ghost use Rattle.common.specs.Page.{level_of};
 ghost use Rattle.paging.specs.Level.{span, Canonical, Within};
@@ -45,8 +47,8 @@ fn put_pieces(table: &mut [u64], leaf: X86PTE, size: PageSize)
 
 // Puts frame `next` in the place of a leaf, as a table of its pieces.
 fn split(pool: &mut [u64], base: u64, next: usize, leaf: LeafEntry)
-    requires frame_in_bounds { (leaf.frame * 512 + 512 ≤ length pool.old) × (leaf.place < 512) }
-    requires next_in_bounds { (next * 512 + 512 ≤ length pool.old) × (base % 4096 ≡ 0) × (base + 4096 * (length pool.old / 512) ≤ 2 ^ 52) }
+    requires placed { (leaf.frame * 512 + 512 ≤ length pool.old) × (leaf.place < 512) }
+    requires room { (next * 512 + 512 ≤ length pool.old) × (base % 4096 ≡ 0) × (base + 4096 * (length pool.old / 512) ≤ 2 ^ 52) }
     ensures { pool.new ≡ split_leaf pool.old (base / 4096) next leaf }
 {
     let frame = leaf.frame;
@@ -65,9 +67,9 @@ fn split(pool: &mut [u64], base: u64, next: usize, leaf: LeafEntry)
 // frames in use afterwards. The end of the lower half is no address, but no leaf reaches over it, and nothing is split there.
 fn split_at(pool: &mut [u64], base: u64, used: usize, vaddr: VirtAddr, depth: usize) -> usize
     requires good { Good pool.old base used }
-    requires vaddr_value { (vaddr % 4096 ≡ 0) × (Canonical 4 vaddr ⊎ (vaddr % span 3 ≡ 0)) }
-    requires vaddr_in_bounds { used + splits vaddr (leaf_over pool.old (base / 4096) vaddr) ≤ length pool.old / 512 }
-    ensures { record { pool = pool.exit.now; used = result } ≡ split_at depth pool.entry.now (base / 4096) used vaddr }
+    requires aligned { (vaddr % 4096 ≡ 0) × (Canonical 4 vaddr ⊎ (vaddr % span 3 ≡ 0)) }
+    requires room { used + splits vaddr (leaf_over pool.old (base / 4096) vaddr) ≤ length pool.old / 512 }
+    ensures { record { pool = pool.new; used = result } ≡ split_at depth pool.old (base / 4096) used vaddr }
 {
     if depth == 0 {
         return used;
@@ -140,10 +142,10 @@ pub fn needed_frames(pool: &[u64], base: u64, used: usize, start: VirtAddr, end:
 // Both ends of a range become begins of leaves. Answers the frames in use afterwards.
 pub fn split_ends(pool: &mut [u64], base: u64, used: usize, start: VirtAddr, end: VirtAddr) -> usize
     requires good { Good pool.old base used }
-    requires start_value { (start % 4096 ≡ 0) × (end % 4096 ≡ 0) × (start < end) × Within 4 start end }
-    requires end_in_bounds { needed pool.old (base / 4096) start end ≤ length pool.old / 512 - used }
-    ensures result_value { record { pool = pool.exit.now; used = result } ≡ split_ends pool.entry.now (base / 4096) used start end }
-    ensures good_2 { Good pool.new base result }
+    requires range { (start % 4096 ≡ 0) × (end % 4096 ≡ 0) × (start < end) × Within 4 start end }
+    requires room { needed pool.old (base / 4096) start end ≤ length pool.old / 512 - used }
+    ensures value { record { pool = pool.new; used = result } ≡ split_ends pool.old (base / 4096) used start end }
+    ensures stays_good { Good pool.new base result }
 {
     let after_start = split_at(pool, base, used, start, DEPTH);
     split_at(pool, base, after_start, end, DEPTH)

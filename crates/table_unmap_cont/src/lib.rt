@@ -1,5 +1,7 @@
 // kernel-hal/src/common/vm.rs: `unmap_cont` on a well-formed table. The frames that it needs are counted before anything is written; then the leaves
 // over both ends are split, and every entry between them is emptied. A hole is passed by the span of the unused entry that makes it.
+#![tactic(auto)]
+
 ghost use Rattle.std.specs.Prelude.{◌≡◌, ◌+◌, ◌*◌, ◌/◌, ◌%◌};
 ghost use Rattle.paging.specs.Level.{Within};
 ghost use Rattle.form.specs.Form.{Good};
@@ -10,7 +12,7 @@ use common::defs::VirtAddr;
 use refusal::Refusal;
 use walk::Walk;
 
-#[derive(Drop)]
+#[derive(Clone, Copy)]
 pub enum UnmapContResult {
     // The frames taken: so many more are in use afterwards.
     Unmapped(usize),
@@ -20,7 +22,7 @@ pub enum UnmapContResult {
 // Empties the entry over an address, and answers what it spans.
 fn clear_entry(pool: &mut [u64], base: u64, used: usize, vaddr: VirtAddr) -> u64
     requires { Good pool.old base used }
-    ensures pool_after { (pool.new ≡ emptied pool.old (base / 4096) vaddr) × (result ≡ span_of (found pool.old (base / 4096) vaddr)) }
+    ensures cleared { (pool.new ≡ emptied pool.old (base / 4096) vaddr) × (result ≡ span_of (found pool.old (base / 4096) vaddr)) }
     ensures good { Good pool.new base used }
 {
     match walk::get_entry(pool, base, used, vaddr) {
@@ -65,8 +67,8 @@ pub fn unmap_cont(
     size: u64,
 ) -> UnmapContResult
     requires good { Good pool.old base used }
-    requires vaddr_value { (vaddr % 4096 ≡ 0) × (size % 4096 ≡ 0) × Within 4 vaddr (vaddr + size) }
-    ensures* { λ r. ⌜ record { result = r; pool = pool.new } ≡ unmap_cont pool.old (base / 4096) used vaddr size ⌝ }
+    requires aligned { (vaddr % 4096 ≡ 0) × (size % 4096 ≡ 0) × Within 4 vaddr (vaddr + size) }
+    ensures { record { result = result; pool = pool.new } ≡ unmap_cont pool.old (base / 4096) used vaddr size }
 {
     if size == 0 {
         return UnmapContResult::Unmapped(0);

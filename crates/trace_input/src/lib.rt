@@ -1,4 +1,6 @@
 // Input that comes in pieces, of any length, and is read line by line in constant memory.
+#![tactic(auto)]
+
 ghost use Rattle.std.specs.Prelude.{◌≤◌, ◌<◌, length};
 
 // Where the line that goes on at `from` ends: at its newline, or with the input.

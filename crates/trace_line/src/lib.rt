@@ -1,4 +1,6 @@
 // A line of a trace: a name and its fields, parted by one space.
+#![tactic(auto)]
+
 ghost use Rattle.std.specs.Prelude.{◌≤◌, ◌<◌, length};
 
 use common::defs::MMUFlags;
@@ -7,7 +9,7 @@ use table::{NewAddr, NewFlags};
 
 pub const MOST_FRAMES: u64 = 64;
 
-#[derive(Drop)]
+#[derive(Clone, Copy)]
 pub enum Line {
     // base, frames, used
     New(u64, u64, u64),
@@ -30,7 +32,7 @@ pub enum Line {
 }
 
 // What a line does with the space.
-#[derive(Drop)]
+#[derive(Clone, Copy)]
 pub enum What {
     Root,
     Kernel,
@@ -57,14 +59,14 @@ pub enum What {
 const MOST_FIELDS: usize = 10;
 
 // The fields of such a line: its numbers, and whether the second is a dash.
-#[derive(Drop)]
+#[derive(Clone, Copy)]
 pub struct Fields {
     pub n: [u64; 10],
     pub is_dash: bool,
     pub is_bad: bool,
 }
 
-#[derive(Drop)]
+#[derive(Clone, Copy)]
 enum Field {
     Number(u64),
     Dash,

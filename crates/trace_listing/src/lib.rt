@@ -1,4 +1,6 @@
 // A space written out, by way of a lent buffer. Each function takes how many of its bytes wait and answers how many wait then.
+#![tactic(auto)]
+
 ghost use Rattle.std.specs.Prelude.{◌+◌, ◌≤◌, ◌<◌, length};
 
 use space::{MAPPINGS, Mapping, REGIONS, Region, Space};

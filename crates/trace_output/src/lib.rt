@@ -1,5 +1,7 @@
 // Output by way of a lent buffer, which is written out whenever it is full. Each function takes how many of its bytes wait and answers how many
 // wait then.
+#![tactic(auto)]
+
 use libc::STDOUT_FILENO;
 
 pub fn byte(out: &mut [u8], waiting: usize, b: u8) -> usize {

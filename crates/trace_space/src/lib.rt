@@ -1,5 +1,7 @@
 // What the lines of a trace do with a space: the calls on it, the lines that set a record, a link or a page flag, and those that write it out.
 // docs/REPLAY.md has them.
+#![tactic(auto)]
+
 mod setting;
 
 use common::defs::{MMUFlags, VmarFlags};
@@ -15,14 +17,14 @@ use vmar_unmap::CutResult;
 use vmar_user_range::UserRangeResult;
 
 // A space, and how many page flags are lent with it.
-#[derive(Drop)]
+#[derive(Clone, Copy)]
 pub struct Held {
     pub space: AddressSpace,
     pub lent: usize,
 }
 
 // Refusal number and value, beside what is held and the frames in use then.
-#[derive(Drop)]
+#[derive(Clone, Copy)]
 pub struct Reply {
     pub number: u64,
     pub value: u64,

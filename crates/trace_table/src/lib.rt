@@ -1,4 +1,6 @@
 // The lines of a trace that make table calls: what each does to a pool, and how its answer is written. docs/REPLAY.md has them.
+#![tactic(auto)]
+
 ghost use Rattle.std.specs.Prelude.{◌≤◌, length};
 
 use std::num::wrapping_add_u64;
@@ -10,7 +12,7 @@ use trace_line::Line;
 const FRAME_WORDS: usize = 512;
 
 // Refusal number, frames in use afterwards, and one to three values.
-#[derive(Drop)]
+#[derive(Clone, Copy)]
 pub struct Answer {
     pub number: u64,
     pub used: usize,

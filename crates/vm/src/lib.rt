@@ -1,4 +1,6 @@
 // zircon-object/src/vm/mod.rs: alignment helpers. All are total; `docs/DECISIONS.md` says what stands where the Rust divides by zero.
+#![tactic(auto)]
+
 ghost use Rattle.std.specs.Prelude.{◌≡◌, ◌-◌, ◌*◌, ◌%◌};
 ghost use Rattle.vm.specs.Align.{multiple, needed};
 

@@ -1,5 +1,7 @@
 // zircon-object/src/vm/vmar.rs: the calls on a space, on any space, any lent flags, any pool and any argument. Each tests what it takes, in document 01's order, and then
 // calls its core; a refused call changes nothing. The Rust's `self` is a region; here it is the space, and the region goes by its id.
+#![tactic(auto)]
+
 ghost use Rattle.std.specs.Prelude.{◌≡◌, true, false, ◌/◌};
 ghost use Rattle.form.specs.Form.{Good};
 ghost use Rattle.space.specs.Passes.{Passes, Passing};
@@ -20,52 +22,52 @@ use vmar_unmap::CutResult;
 use vmar_user_range::UserRangeResult;
 
 // A space with the calls on it.
-#[derive(Drop)]
+#[derive(Clone, Copy)]
 pub struct AddressSpace {
     pub space: Space,
 }
 
 // The answer of a call beside the new space.
-#[derive(Drop)]
+#[derive(Clone, Copy)]
 pub struct Allocated {
     pub result: AllocateResult,
     pub space: AddressSpace,
 }
 
-#[derive(Drop)]
+#[derive(Clone, Copy)]
 pub struct Mapped {
     pub result: MapExtResult,
     pub space: AddressSpace,
 }
 
-#[derive(Drop)]
+#[derive(Clone, Copy)]
 pub struct FlagsFound {
     pub result: FlagsResult,
     pub space: AddressSpace,
 }
 
-#[derive(Drop)]
+#[derive(Clone, Copy)]
 pub struct UserRangeChecked {
     pub result: UserRangeResult,
     pub space: AddressSpace,
 }
 
 // With the frames in use.
-#[derive(Drop)]
+#[derive(Clone, Copy)]
 pub struct MappedOver {
     pub result: MapExtResult,
     pub space: AddressSpace,
     pub used: usize,
 }
 
-#[derive(Drop)]
+#[derive(Clone, Copy)]
 pub struct Cut {
     pub result: CutResult,
     pub space: AddressSpace,
     pub used: usize,
 }
 
-#[derive(Drop)]
+#[derive(Clone, Copy)]
 pub struct Protected {
     pub result: ProtectResult,
     pub space: AddressSpace,
@@ -191,7 +193,7 @@ impl AddressSpace {
         region_flags: VmarFlags,
         align: u64,
     ) -> Allocated
-        ensures* { λ x. ⌜ AllocateFits self.space flags.now region offset len region_flags.0 align (record { result = x.result; space = x.space.space }) ⌝ }
+        ensures { AllocateFits self.space flags.now region offset len region_flags.0 align (record { result = result.result; space = result.space.space }) }
     {
         let s = self.space;
         if !space_check::is_good(s, flags) {
@@ -227,7 +229,7 @@ impl AddressSpace {
         flags: MMUFlags,
         allow_faults: bool,
     ) -> Mapped
-        ensures* { λ x. ⌜ MapFits self.space pages.old pool.now base used region offset vmo.id vmo.len vmo_offset len permissions.0 flags.0 allow_faults (record { result = x.result; space = x.space.space; flags = pages.new }) ⌝ }
+        ensures { MapFits self.space pages.old pool.now base used region offset vmo.id vmo.len vmo_offset len permissions.0 flags.0 allow_faults (record { result = result.result; space = result.space.space; flags = pages.new }) }
     {
         let s = self.space;
         if !space_check::is_good(s, pages) {
@@ -282,7 +284,7 @@ impl AddressSpace {
         overwrite: bool,
         allow_faults: bool,
     ) -> MappedOver
-        ensures* { λ x. ⌜ MapExtFits self.space pages.old pool.old base used region offset vmo.id vmo.len vmo_offset len permissions.0 flags.0 overwrite allow_faults (record { result = x.result; state = record { space = x.space.space; flags = pages.new; pool = pool.new; used = x.used } }) ⌝ }
+        ensures { MapExtFits self.space pages.old pool.old base used region offset vmo.id vmo.len vmo_offset len permissions.0 flags.0 overwrite allow_faults (record { result = result.result; state = record { space = result.space.space; flags = pages.new; pool = pool.new; used = result.used } }) }
     {
         let s = self.space;
         if !space_check::is_good(s, pages) {
@@ -330,7 +332,7 @@ impl AddressSpace {
 
     // The flags that the mapping over the address gives its page, whether or not the table holds it.
     pub fn get_mapping_flags(self, flags: &[u8], region: u64, vaddr: VirtAddr) -> FlagsFound
-        ensures* { λ x. ⌜ FlagsFit self.space flags.now region vaddr (record { result = x.result; space = x.space.space }) ⌝ }
+        ensures { FlagsFit self.space flags.now region vaddr (record { result = result.result; space = result.space.space }) }
     {
         let s = self.space;
         if !space_check::is_good(s, flags) {
@@ -357,7 +359,7 @@ impl AddressSpace {
         region: u64,
         vaddr: VirtAddr,
     ) -> FlagsFound
-        ensures* { λ x. ⌜ VaddrFits self.space flags.now pool.now base used region vaddr (record { result = x.result; space = x.space.space }) ⌝ }
+        ensures { VaddrFits self.space flags.now pool.now base used region vaddr (record { result = result.result; space = result.space.space }) }
     {
         let s = self.space;
         if !space_check::is_good(s, flags) {
@@ -390,7 +392,7 @@ impl AddressSpace {
         len: u64,
         access: MMUFlags,
     ) -> UserRangeChecked
-        ensures* { λ x. ⌜ UserRangeFits self.space flags.now region addr len access.0 (record { result = x.result; space = x.space.space }) ⌝ }
+        ensures { UserRangeFits self.space flags.now region addr len access.0 (record { result = result.result; space = result.space.space }) }
     {
         let s = self.space;
         if !space_check::is_good(s, flags) {
@@ -418,7 +420,7 @@ impl AddressSpace {
         addr: VirtAddr,
         len: u64,
     ) -> Cut
-        ensures* { λ x. ⌜ UnmapFits self.space pages.old pool.old base used region addr len (record { result = x.result; state = record { space = x.space.space; flags = pages.new; pool = pool.new; used = x.used } }) ⌝ }
+        ensures { UnmapFits self.space pages.old pool.old base used region addr len (record { result = result.result; state = record { space = result.space.space; flags = pages.new; pool = pool.new; used = result.used } }) }
     {
         let s = self.space;
         if !space_check::is_good(s, pages) {
@@ -458,7 +460,7 @@ impl AddressSpace {
         used: usize,
         region: u64,
     ) -> Cut
-        ensures* { λ x. ⌜ ClearFits self.space pages.old pool.old base used region true (record { result = x.result; state = record { space = x.space.space; flags = pages.new; pool = pool.new; used = x.used } }) ⌝ }
+        ensures { ClearFits self.space pages.old pool.old base used region true (record { result = result.result; state = record { space = result.space.space; flags = pages.new; pool = pool.new; used = result.used } }) }
     {
         let s = self.space;
         if !space_check::is_good(s, pages) {
@@ -498,7 +500,7 @@ impl AddressSpace {
         used: usize,
         region: u64,
     ) -> Cut
-        ensures* { λ x. ⌜ ClearFits self.space pages.old pool.old base used region false (record { result = x.result; state = record { space = x.space.space; flags = pages.new; pool = pool.new; used = x.used } }) ⌝ }
+        ensures { ClearFits self.space pages.old pool.old base used region false (record { result = result.result; state = record { space = result.space.space; flags = pages.new; pool = pool.new; used = result.used } }) }
     {
         let s = self.space;
         if !space_check::is_good(s, pages) {
@@ -541,7 +543,7 @@ impl AddressSpace {
         len: u64,
         flags: MMUFlags,
     ) -> Protected
-        ensures* { λ x. ⌜ ProtectFits self.space pages.old pool.old base used region addr len flags.0 (record { space = x.space.space; done = record { result = x.result; flags = pages.new; pool = pool.new } }) ⌝ }
+        ensures { ProtectFits self.space pages.old pool.old base used region addr len flags.0 (record { space = result.space.space; done = record { result = result.result; flags = pages.new; pool = pool.new } }) }
     {
         let s = self.space;
         if !space_check::is_good(s, pages) {

@@ -1,4 +1,6 @@
 // zircon-object/src/vm/vmar.rs: `allocate` on a space that passes its check.
+#![tactic(auto)]
+
 ghost use Rattle.std.specs.Prelude.{◌≡◌, true, ◌+◌, leb};
 ghost use Rattle.space.specs.Space.{region_at};
 ghost use Rattle.space.specs.Passes.{Passing, LiveIn};
@@ -12,14 +14,14 @@ use vmar_offset::{Offset, OffsetResult};
 // One more than the last id that is issued.
 const IDS: u64 = 0xffff_ffff;
 
-#[derive(Drop)]
+#[derive(Clone, Copy)]
 pub enum AllocateResult {
     // The new region's id.
     Region(u64),
     Refused(Refusal),
 }
 
-#[derive(Drop)]
+#[derive(Clone, Copy)]
 pub struct Allocation {
     pub result: AllocateResult,
     pub space: Space,

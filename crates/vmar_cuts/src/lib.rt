@@ -1,5 +1,7 @@
 // zircon-object/src/vm/vmar.rs: the table cuts of `unmap_inner`, `destroy_internal` and `clear`, in a space that passes its check. They come in the Rust's order and read the
 // space only; the space itself is changed elsewhere. Whether the frames suffice is counted before the first cut, by the same walk.
+#![tactic(auto)]
+
 ghost use Rattle.std.specs.Prelude.{◌≡◌, ◌-◌, ◌*◌, ◌/◌, min, max, leb};
 ghost use Rattle.form.specs.Form.{Good};
 ghost use Rattle.space.specs.Passes.{Passing};
@@ -40,8 +42,8 @@ fn cut_part(
 ) -> usize
     requires good { Good pool.old base used }
     requires fits { Fits (whole m) × PageRange begin end }
-    ensures result_value { record { pool = pool.exit.now; used = result } ≡ cut_all (base / 4096) (part_of m r begin end) (record { pool = pool.entry.now; used = used }) }
-    ensures good_2 { Good pool.new base result }
+    ensures value { record { pool = pool.new; used = result } ≡ cut_all (base / 4096) (part_of m r begin end) (record { pool = pool.old; used = used }) }
+    ensures stays_good { Good pool.new base result }
 {
     if !vmar_offset::mapping_meets(m, r, begin, end - begin) {
         return used;
@@ -63,8 +65,8 @@ fn cut_parts(
 ) -> usize
     requires good { Good pool.old base used }
     requires passing { Passing s × PageRange begin end }
-    ensures result_value { record { pool = pool.exit.now; used = result } ≡ cut_all (base / 4096) (parts s r begin end) (record { pool = pool.entry.now; used = used }) }
-    ensures good_2 { Good pool.new base result }
+    ensures value { record { pool = pool.new; used = result } ≡ cut_all (base / 4096) (parts s r begin end) (record { pool = pool.old; used = used }) }
+    ensures stays_good { Good pool.new base result }
 {
     let list = s.maplist;
     let mut in_use = used;
@@ -91,8 +93,8 @@ fn destroy_internal(
 ) -> usize
     requires good { Good pool.old base used }
     requires passing { Passing s × PageRange begin end }
-    ensures result_value { record { pool = pool.exit.now; used = result } ≡ cut_all (base / 4096) (children s depth r begin end) (record { pool = pool.entry.now; used = used }) }
-    ensures good_2 { Good pool.new base result }
+    ensures value { record { pool = pool.new; used = result } ≡ cut_all (base / 4096) (children s depth r begin end) (record { pool = pool.old; used = used }) }
+    ensures stays_good { Good pool.new base result }
 {
     if depth == 0 {
         return used;
@@ -125,8 +127,8 @@ pub fn unmap_cuts(
 ) -> usize
     requires good { Good pool.old base used }
     requires passing { Passing s × PageRange begin end }
-    ensures result_value { record { pool = pool.exit.now; used = result } ≡ cut_all (base / 4096) (unmap_cuts s r begin end) (record { pool = pool.entry.now; used = used }) }
-    ensures good_2 { Good pool.new base result }
+    ensures value { record { pool = pool.new; used = result } ≡ cut_all (base / 4096) (unmap_cuts s r begin end) (record { pool = pool.old; used = used }) }
+    ensures stays_good { Good pool.new base result }
 {
     let own = cut_parts(s, pool, base, used, r, begin, end);
     destroy_internal(s, pool, base, own, r, begin, end, 32)
@@ -136,8 +138,8 @@ pub fn unmap_cuts(
 pub fn destroy_cuts(s: Space, pool: &mut [u64], base: u64, used: usize, r: usize) -> usize
     requires good { Good pool.old base used }
     requires passing { Passing s }
-    ensures result_value { record { pool = pool.exit.now; used = result } ≡ cut_all (base / 4096) (destroy_cuts s r) (record { pool = pool.entry.now; used = used }) }
-    ensures good_2 { Good pool.new base result }
+    ensures value { record { pool = pool.new; used = result } ≡ cut_all (base / 4096) (destroy_cuts s r) (record { pool = pool.old; used = used }) }
+    ensures stays_good { Good pool.new base result }
 {
     let below = destroy_internal(s, pool, base, used, r, 0, END, 32);
     cut_parts(s, pool, base, below, r, 0, END)

@@ -1,5 +1,7 @@
 // Which regions go when a range is cut out of a region of a space that passes its check: the Rust finds them by walking down; here each looks at its parent, which stands
 // before it in the list.
+#![tactic(auto)]
+
 ghost use Rattle.std.specs.Prelude.{◌≡◌, false, ◌≤◌, length, get_or};
 ghost use Rattle.space.specs.Passes.{Passing};
 ghost use Rattle.vmar_doom.specs.Doomed.{is_child_in, marked};

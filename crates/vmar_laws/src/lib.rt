@@ -1,1 +1,2 @@
 // What allocate and map on a space that passes its check mean: definitions and theorems only.
+#![tactic(auto)]

@@ -1,5 +1,7 @@
 // zircon-object/src/vm/vmar.rs: `get_mapping_flags` and `get_vaddr_flags` in a live region of a space that passes its check. Both descend to the mapping that
 // holds the address; what they do there stands apart from the descent.
+#![tactic(auto)]
+
 ghost use Rattle.std.specs.Prelude.{◌≡◌, ◌/◌};
 ghost use Rattle.form.specs.Form.{Good};
 ghost use Rattle.space.specs.Passes.{Passes, LiveIn};
@@ -10,7 +12,7 @@ use refusal::Refusal;
 use space::Space;
 use table::QueryResult;
 
-#[derive(Drop)]
+#[derive(Clone, Copy)]
 pub enum Found {
     // The slot of the mapping that holds the address.
     Mapping(usize),
@@ -18,7 +20,7 @@ pub enum Found {
 }
 
 // One level of a lookup.
-#[derive(Drop)]
+#[derive(Clone, Copy)]
 pub enum Next {
     // It goes on in the child in this slot.
     Down(usize),
@@ -26,7 +28,7 @@ pub enum Next {
     Refused(Refusal),
 }
 
-#[derive(Drop)]
+#[derive(Clone, Copy)]
 pub enum FlagsResult {
     Flags(MMUFlags),
     Refused(Refusal),

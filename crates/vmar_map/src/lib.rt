@@ -1,4 +1,6 @@
 // zircon-object/src/vm/vmar.rs: the half of `map_ext` that never overwrites, with `map_range` false, on a space that passes its check.
+#![tactic(auto)]
+
 ghost use Rattle.std.specs.Prelude.{◌≡◌, true, ◌+◌, ◌*◌, ◌%◌, ◌≤◌, leb, length};
 ghost use Rattle.common.specs.Flags.{known_page};
 ghost use Rattle.space.specs.Space.{region_at};
@@ -14,27 +16,27 @@ use vmar_offset::{Offset, OffsetResult};
 const RXW: u64 = 0x1c;
 
 // A VMO: its id and its length in bytes.
-#[derive(Drop)]
+#[derive(Clone, Copy)]
 pub struct Vmo {
     pub id: u64,
     pub len: u64,
 }
 
-#[derive(Drop)]
+#[derive(Clone, Copy)]
 pub enum MapExtResult {
     // The mapping's address.
     Mapped(VirtAddr),
     Refused(Refusal),
 }
 
-#[derive(Drop)]
+#[derive(Clone, Copy)]
 pub struct MapOutcome {
     pub result: MapExtResult,
     pub space: Space,
 }
 
 // Whether arguments are in order.
-#[derive(Drop)]
+#[derive(Clone, Copy)]
 pub enum Tested {
     Fine,
     Refused(Refusal),

@@ -1,5 +1,7 @@
 // zircon-object/src/vm/vmar.rs: `determine_offset`, `find_free_area` and `test_map`, on a space that passes its check; and
 // which slots a call takes: that of an id, the lowest free one.
+#![tactic(auto)]
+
 ghost use Rattle.std.specs.Prelude.{◌≡◌, ◌+◌, ◌^◌, ◌<◌, length};
 ghost use Rattle.scan.specs.Scan.{some};
 ghost use Rattle.space.specs.Passes.{LiveIn};
@@ -12,13 +14,13 @@ use space::{MAPPINGS, Mapping, REGIONS, Region, Space};
 use space_parts::PARTS;
 
 // An offset into a region, or none: the Rust's `Option<usize>`.
-#[derive(Drop)]
+#[derive(Clone, Copy)]
 pub enum Offset {
     Some(u64),
     None,
 }
 
-#[derive(Drop)]
+#[derive(Clone, Copy)]
 pub enum OffsetResult {
     Ok(u64),
     Refused(Refusal),

@@ -1,5 +1,7 @@
 // zircon-object/src/vm/vmar.rs: the half of `map_ext` that overwrites, with `map_range` false, on a space that passes its check and a good pool. Where nothing is met it
 // places the mapping as the other half does; else it cuts the range out of the region first.
+#![tactic(auto)]
+
 ghost use Rattle.std.specs.Prelude.{◌≡◌, true, List, ℕ, ◌+◌, ◌*◌, ◌/◌, ◌%◌, ◌^◌, ◌≤◌, ◌<◌, leb, length};
 ghost use Rattle.common.specs.Flags.{known_page};
 ghost use Rattle.form.specs.Form.{Good};
@@ -9,7 +11,7 @@ ghost use Rattle.space.specs.Passes.{Passes, Passing, LiveIn};
 ghost use Rattle.vmar_offset.specs.Offset.{is_free_mapping};
 ghost use Rattle.vmar_cuts.specs.Cuts.{PageRange};
 ghost use Rattle.vmar_map.specs.Map.{filled};
-ghost use Rattle.vmar_map.specs.declared.MapExtResult.TheVariants as result;
+ghost use Rattle.vmar_map.specs.declared.MapExtResult.TheVariants as outcome;
 ghost use Rattle.vmar_unmap.specs.declared.CutResult.TheVariants as cut;
 ghost use Rattle.vmar_overwrite.specs.Overwrite.{done, new_slot, is_short, after_cut, replaced, overlaid, at_offset, in_region, overwritten};
 
@@ -21,7 +23,7 @@ use vmar_offset::Offset;
 use vmar_unmap::{CutOutcome, CutResult};
 
 // The answer of a call, the space and the frames in use.
-#[derive(Drop)]
+#[derive(Clone, Copy)]
 pub struct OverwriteOutcome {
     pub result: MapExtResult,
     pub space: Space,
@@ -29,7 +31,7 @@ pub struct OverwriteOutcome {
 }
 
 fn refuse(s: Space, used: usize, why: Refusal) -> OverwriteOutcome
-    ensures* { λ x. ⌜ x ≡ record { result = result.Refused why; space = s; used = used } ⌝ }
+    ensures { result ≡ record { result = outcome.Refused why; space = s; used = used } }
 {
     let no = MapExtResult::Refused(why);
     OverwriteOutcome {
@@ -41,7 +43,7 @@ fn refuse(s: Space, used: usize, why: Refusal) -> OverwriteOutcome
 
 // The lowest free mapping slot from this one on, 64 or more where there is none.
 fn free_from(s: Space, from: usize) -> usize
-    ensures* { λ r. ⌜ r ≡ first (is_free_mapping s) from 64 ⌝ }
+    ensures { result ≡ first (is_free_mapping s) from 64 }
 {
     let mut i = from;
     while i < MAPPINGS {
@@ -57,7 +59,7 @@ fn free_from(s: Space, from: usize) -> usize
 // The new mapping's slot where the range is cut out of region r: a split takes the lowest free one.
 fn new_slot(s: Space, r: usize, begin: VirtAddr, end: VirtAddr) -> usize
     requires { Passing s }
-    ensures* { λ x. ⌜ x ≡ new_slot s r begin end ⌝ }
+    ensures { result ≡ new_slot s r begin end }
 {
     let slot = vmar_offset::free_mapping(s);
     if MAPPINGS <= vmar_prune::split_slot(s, r, begin, end) {
@@ -68,7 +70,7 @@ fn new_slot(s: Space, r: usize, begin: VirtAddr, end: VirtAddr) -> usize
 
 // Whether a mapping of this length in this slot is too long, or the slot past the last.
 fn is_short(len: u64, slot: usize) -> bool
-    ensures* { λ x. ⌜ x ≡ is_short len slot ⌝ }
+    ensures { result ≡ is_short len slot }
 {
     if MOST < len {
         return true;
@@ -79,7 +81,7 @@ fn is_short(len: u64, slot: usize) -> bool
 // The mapping goes to its slot, and its pages get the flags.
 fn put(s: Space, pages: &mut [u8], slot: usize, m: Mapping, flags: MMUFlags) -> Space
     requires { (slot < 64) × (s.mapcount < 64) × (m.size ≤ 0x200000) × (length pages.old ≡ 32768) × (known_page flags.0 ≡ true) }
-    ensures* { λ x. ⌜ (x ≡ with_mapping s slot m) × (pages.new ≡ filled pages.old (slot * 512) (m.size / 4096) flags.0) ⌝ }
+    ensures { (result ≡ with_mapping s slot m) × (pages.new ≡ filled pages.old (slot * 512) (m.size / 4096) flags.0) }
 {
     vmar_map::fill(
         pages,
@@ -99,7 +101,7 @@ fn after_cut(
     flags: MMUFlags,
 ) -> OverwriteOutcome
     requires { (out.result ≡ cut.Done → (slot < 64) × (out.space.mapcount < 64) × (m.size ≤ 0x200000)) × (length pages.old ≡ 32768) × (known_page flags.0 ≡ true) }
-    ensures* { λ x. ⌜ ((p : List ℕ) → done x pages.new p ≡ after_cut (record { space = out.space; flags = pages.old; pool = p; used = out.used }) slot m flags.0 out.result) ⌝ }
+    ensures { (p : List ℕ) → done result pages.new p ≡ after_cut (record { space = out.space; flags = pages.old; pool = p; used = out.used }) slot m flags.0 out.result }
 {
     let result = out.result;
     match result {
@@ -127,7 +129,7 @@ fn replace(
     flags: MMUFlags,
 ) -> OverwriteOutcome
     requires { Passes s pages.old × Good pool.old base used × PageRange m.addr (m.addr + m.size) × (m.addr + m.size < 2 ^ 64) × (known_page flags.0 ≡ true) }
-    ensures* { λ x. ⌜ done x pages.new pool.new ≡ replaced base (record { space = s; flags = pages.old; pool = pool.old; used = used }) m flags.0 ⌝ }
+    ensures { done result pages.new pool.new ≡ replaced base (record { space = s; flags = pages.old; pool = pool.old; used = used }) m flags.0 }
 {
     if m.size == 0 {
         return refuse(s, used, Refusal::InvalidArgs);
@@ -155,7 +157,7 @@ fn overlay(
     flags: MMUFlags,
 ) -> OverwriteOutcome
     requires { LiveIn s r × Passes s pages.old × Good pool.old base used × (leb (offset + len) (region_at s r).size ≡ true) × (((region_at s r).addr + offset) % 4096 ≡ 0) × (len % 4096 ≡ 0) × (known_page flags.0 ≡ true) }
-    ensures* { λ x. ⌜ done x pages.new pool.new ≡ overlaid base (record { space = s; flags = pages.old; pool = pool.old; used = used }) r offset vmo.id vmo_offset len permissions.0 flags.0 ⌝ }
+    ensures { done result pages.new pool.new ≡ overlaid base (record { space = s; flags = pages.old; pool = pool.old; used = used }) r offset vmo.id vmo_offset len permissions.0 flags.0 }
 {
     if vmar_offset::test_map(s, r, offset, len) {
         let out = vmar_map::place(
@@ -206,7 +208,7 @@ fn at_offset(
     flags: MMUFlags,
 ) -> OverwriteOutcome
     requires { LiveIn s r × Passes s pages.old × Good pool.old base used × (len % 4096 ≡ 0) × (known_page flags.0 ≡ true) }
-    ensures* { λ x. ⌜ done x pages.new pool.new ≡ at_offset base (record { space = s; flags = pages.old; pool = pool.old; used = used }) r offset vmo.id vmo_offset len permissions.0 flags.0 ⌝ }
+    ensures { done result pages.new pool.new ≡ at_offset base (record { space = s; flags = pages.old; pool = pool.old; used = used }) r offset vmo.id vmo_offset len permissions.0 flags.0 }
 {
     if !vm::page_aligned(offset) {
         return refuse(s, used, Refusal::InvalidArgs);
@@ -250,7 +252,7 @@ fn overwrite_in(
     flags: MMUFlags,
 ) -> OverwriteOutcome
     requires { Passes s pages.old × Good pool.old base used × (len % 4096 ≡ 0) × (known_page flags.0 ≡ true) }
-    ensures* { λ x. ⌜ done x pages.new pool.new ≡ in_region base (record { space = s; flags = pages.old; pool = pool.old; used = used }) id offset vmo.id vmo_offset len permissions.0 flags.0 ⌝ }
+    ensures { done result pages.new pool.new ≡ in_region base (record { space = s; flags = pages.old; pool = pool.old; used = used }) id offset vmo.id vmo_offset len permissions.0 flags.0 }
 {
     let r = vmar_offset::slot_of(s, id);
     if r == NO_REGION {
@@ -292,7 +294,7 @@ pub fn map_overwrite(
     allow_faults: bool,
 ) -> OverwriteOutcome
     requires { Passes s pages.old × Good pool.old base used }
-    ensures* { λ x. ⌜ done x pages.new pool.new ≡ overwritten base (record { space = s; flags = pages.old; pool = pool.old; used = used }) id offset vmo.id vmo.len vmo_offset len permissions.0 flags.0 allow_faults ⌝ }
+    ensures { done result pages.new pool.new ≡ overwritten base (record { space = s; flags = pages.old; pool = pool.old; used = used }) id offset vmo.id vmo.len vmo_offset len permissions.0 flags.0 allow_faults }
 {
     if s.nextid <= id {
         return refuse(s, used, Refusal::BadHandle);

@@ -1,4 +1,6 @@
 // zircon-object/src/vm/vmar.rs: `protect`, on a space that passes its check and a good pool. The space's records do not change: a protect writes page flags and leaves.
+#![tactic(auto)]
+
 ghost use Rattle.std.specs.Prelude.{◌≡◌, true, ◌+◌, ◌-◌, ◌*◌, ◌/◌, ◌^◌, ◌≤◌, ◌<◌, length};
 ghost use Rattle.form.specs.Form.{Good};
 ghost use Rattle.space.specs.Passes.{Passes, Paged, LiveIn};
@@ -12,14 +14,14 @@ use table::{NewAddr, NewFlags};
 // What stays of page flags when READ, WRITE and EXECUTE are taken away.
 const KEPT: u8 = 0xe3;
 
-#[derive(Drop)]
+#[derive(Clone, Copy)]
 pub enum ProtectResult {
     Protected,
     Refused(Refusal),
 }
 
 // A mapping's pages that change: so many from the first on.
-#[derive(Drop)]
+#[derive(Clone, Copy)]
 pub struct Changed {
     pub first: usize,
     pub count: usize,

@@ -1,5 +1,7 @@
 // zircon-object/src/vm/vmar.rs: what `unmap_inner`, `destroy_internal` and `clear` do to a space that passes its check and to its page flags. The table is cut before
 // (vmar_cuts).
+#![tactic(auto)]
+
 ghost use Rattle.std.specs.Prelude.{◌≡◌, ◌⊎◌, ℕ, ◌+◌, ◌-◌, ◌*◌, ◌/◌, ◌^◌, ◌≤◌, ◌<◌, ltb, length, get_or};
 ghost use Rattle.paging.specs.Choice.{pick};
 ghost use Rattle.space.specs.Space.{blank_region, blank_mapping};
@@ -210,8 +212,8 @@ fn put(list: &mut [usize], n: usize, slot: usize, is_kept: bool) -> usize
 // The slots of the regions that stay, in the order of the list.
 fn pack_regions(s: Space, marks: &[bool], list: &mut [usize]) -> usize
     requires { Passing s × (length marks.now ≡ 32) × (length list.old ≡ 32) }
-    ensures result_after { packed_of list.new result ≡ packed (kept_slots marks.now) list.old s.reglist s.regcount }
-    ensures upper_bound { result ≤ s.regcount }
+    ensures order { packed_of list.new result ≡ packed (kept_slots marks.now) list.old s.reglist s.regcount }
+    ensures most { result ≤ s.regcount }
 {
     let old = s.reglist;
     let mut n = 0;
@@ -227,8 +229,8 @@ fn pack_regions(s: Space, marks: &[bool], list: &mut [usize]) -> usize
 // The slots of the mappings that stay, likewise.
 fn pack_mappings(s: Space, maps: [Mapping; 64], list: &mut [usize]) -> usize
     requires { Passing s × (length list.old ≡ 64) }
-    ensures result_after { packed_of list.new result ≡ packed (live_slots maps) list.old s.maplist s.mapcount }
-    ensures upper_bound { result ≤ s.mapcount }
+    ensures order { packed_of list.new result ≡ packed (live_slots maps) list.old s.maplist s.mapcount }
+    ensures most { result ≤ s.mapcount }
 {
     let old = s.maplist;
     let mut n = 0;
@@ -246,7 +248,7 @@ fn pack_mappings(s: Space, maps: [Mapping; 64], list: &mut [usize]) -> usize
 fn prune(s: Space, marks: &[bool], r: usize, begin: VirtAddr, end: VirtAddr) -> Space
     requires { Passing s × (length marks.now ≡ 32) }
     ensures value { result ≡ pruned s marks.now r begin end }
-    ensures mapcount_le_mapcount { result.mapcount ≤ s.mapcount }
+    ensures most { result.mapcount ≤ s.mapcount }
 {
     let regions = kept_regions(s, marks);
     let mappings = kept_mappings(s, marks, r, begin, end);

@@ -1,4 +1,6 @@
 // zircon-object/src/vm/vmar.rs: `new_root` and `new_kernel`. The caller zeroes the page flags.
+#![tactic(auto)]
+
 ghost use Rattle.std.specs.Prelude.{◌≡◌};
 ghost use Rattle.vmar_root.specs.Root.{new_space};
 

@@ -1,5 +1,7 @@
 // zircon-object/src/vm/vmar.rs: `unmap`, `destroy` and `clear`, on a space that passes its check and a good pool. What can refuse is asked before anything changes; then the
 // table is cut in the Rust's order, and the page flags and the space follow.
+#![tactic(auto)]
+
 ghost use Rattle.std.specs.Prelude.{◌≡◌, true, false, ◌+◌, ◌*◌, ◌/◌, ◌%◌, ◌≤◌, ◌<◌, length, set};
 ghost use Rattle.paging.specs.Choice.{pick};
 ghost use Rattle.form.specs.Form.{Good};
@@ -9,7 +11,7 @@ ghost use Rattle.vmar_offset.specs.Offset.{free_mapping};
 ghost use Rattle.vmar_doom.specs.Doomed.{marked};
 ghost use Rattle.vmar_cuts.specs.Cuts.{PageRange, unmap_cuts, destroy_cuts};
 ghost use Rattle.vmar_prune.specs.Prune.{split_slot, cut_space, cut_flags};
-ghost use Rattle.vmar_unmap.specs.declared.CutResult.TheVariants as result;
+ghost use Rattle.vmar_unmap.specs.declared.CutResult.TheVariants as outcome;
 ghost use Rattle.vmar_unmap.specs.Unmap.{done, cut_state, is_partly, partly_at, has_dead, lacks_slot, cut_range, in_region, unmapped, going_with, cleared, cleared_call};
 
 use common::defs::VirtAddr;
@@ -17,14 +19,14 @@ use refusal::Refusal;
 use space::{LAST, MAPPINGS, NO_REGION, REGIONS, Region, Space};
 use vmar_doom::END;
 
-#[derive(Drop)]
+#[derive(Clone, Copy)]
 pub enum CutResult {
     Done,
     Refused(Refusal),
 }
 
 // The answer of a call, the space and the frames in use.
-#[derive(Drop)]
+#[derive(Clone, Copy)]
 pub struct CutOutcome {
     pub result: CutResult,
     pub space: Space,
@@ -32,7 +34,7 @@ pub struct CutOutcome {
 }
 
 fn refuse(s: Space, used: usize, why: Refusal) -> CutOutcome
-    ensures* { λ x. ⌜ x ≡ record { result = result.Refused why; space = s; used = used } ⌝ }
+    ensures { result ≡ record { result = outcome.Refused why; space = s; used = used } }
 {
     let no = CutResult::Refused(why);
     CutOutcome {
@@ -45,7 +47,7 @@ fn refuse(s: Space, used: usize, why: Refusal) -> CutOutcome
 // The Rust's `partial_overlap` of a child.
 fn is_partly(g: Region, r: usize, begin: VirtAddr, end: VirtAddr) -> bool
     requires { begin ≤ end }
-    ensures* { λ x. ⌜ x ≡ is_partly g r begin end ⌝ }
+    ensures { result ≡ is_partly g r begin end }
 {
     if !vmar_offset::child_meets(g, r, begin, end - begin) {
         return false;
@@ -55,7 +57,7 @@ fn is_partly(g: Region, r: usize, begin: VirtAddr, end: VirtAddr) -> bool
 
 fn has_partly(s: Space, r: usize, begin: VirtAddr, end: VirtAddr) -> bool
     requires { begin ≤ end }
-    ensures* { λ x. ⌜ x ≡ some (partly_at s r begin end) 0 32 ⌝ }
+    ensures { result ≡ some (partly_at s r begin end) 0 32 }
 {
     let mut i = 0;
     while i < REGIONS {
@@ -71,7 +73,7 @@ fn has_partly(s: Space, r: usize, begin: VirtAddr, end: VirtAddr) -> bool
 // Whether a listed region is dead. The one place that gives 14.
 fn has_dead(s: Space) -> bool
     requires { Passing s }
-    ensures* { λ x. ⌜ x ≡ has_dead s ⌝ }
+    ensures { result ≡ has_dead s }
 {
     let list = s.reglist;
     let mut k = 0;
@@ -89,7 +91,7 @@ fn has_dead(s: Space) -> bool
 // Whether a mapping is split and no slot is free for its second part.
 fn lacks_slot(s: Space, r: usize, begin: VirtAddr, end: VirtAddr) -> bool
     requires { Passing s }
-    ensures* { λ x. ⌜ x ≡ lacks_slot s r begin end ⌝ }
+    ensures { result ≡ lacks_slot s r begin end }
 {
     if MAPPINGS <= vmar_prune::split_slot(s, r, begin, end) {
         return false;
@@ -107,7 +109,7 @@ fn prune(
     end: VirtAddr,
 ) -> Space
     requires { Passes s pages.old × (length marks ≡ 32) × (split_slot s r begin end < 64 → free_mapping s < 64) }
-    ensures* { λ x. ⌜ (x ≡ cut_space s marks r begin end) × (pages.new ≡ cut_flags s pages.old marks r begin end) ⌝ }
+    ensures { (result ≡ cut_space s marks r begin end) × (pages.new ≡ cut_flags s pages.old marks r begin end) }
 {
     vmar_prune::cut_flags(s, pages, &marks, r, begin, end);
     vmar_prune::cut_space(s, &marks, r, begin, end)
@@ -125,7 +127,7 @@ fn cut(
     end: VirtAddr,
 ) -> CutOutcome
     requires { Passes s pages.old × Good pool.old base used × PageRange begin end × (split_slot s r begin end < 64 → free_mapping s < 64) }
-    ensures* { λ x. ⌜ done x pages.new pool.new ≡ record { result = result.Done; state = cut_state base (record { space = s; flags = pages.old; pool = pool.old; used = used }) (marked s r begin end) (unmap_cuts s r begin end) r begin end } ⌝ }
+    ensures { done result pages.new pool.new ≡ record { result = outcome.Done; state = cut_state base (record { space = s; flags = pages.old; pool = pool.old; used = used }) (marked s r begin end) (unmap_cuts s r begin end) r begin end } }
 {
     let after = vmar_cuts::unmap_cuts(s, pool, base, used, r, begin, end);
     let marks = vmar_doom::doomed(s, r, begin, end);
@@ -151,7 +153,7 @@ pub fn unmap_inner(
     is_short: bool,
 ) -> CutOutcome
     requires { Passes s pages.old × Good pool.old base used × PageRange begin end × (is_short ≡ false → split_slot s r begin end < 64 → free_mapping s < 64) }
-    ensures* { λ x. ⌜ done x pages.new pool.new ≡ cut_range base (record { space = s; flags = pages.old; pool = pool.old; used = used }) r begin end is_short ⌝ }
+    ensures { done result pages.new pool.new ≡ cut_range base (record { space = s; flags = pages.old; pool = pool.old; used = used }) r begin end is_short }
 {
     if has_partly(s, r, begin, end) {
         return refuse(s, used, Refusal::InvalidArgs);
@@ -181,7 +183,7 @@ fn unmap_in(
     len: u64,
 ) -> CutOutcome
     requires { Passes s pages.old × Good pool.old base used × (addr % 4096 ≡ 0) × (len % 4096 ≡ 0) }
-    ensures* { λ x. ⌜ done x pages.new pool.new ≡ in_region base (record { space = s; flags = pages.old; pool = pool.old; used = used }) id addr len ⌝ }
+    ensures { done result pages.new pool.new ≡ in_region base (record { space = s; flags = pages.old; pool = pool.old; used = used }) id addr len }
 {
     let r = vmar_offset::slot_of(s, id);
     if r == NO_REGION {
@@ -207,7 +209,7 @@ pub fn unmap(
     len: u64,
 ) -> CutOutcome
     requires { Passes s pages.old × Good pool.old base used }
-    ensures* { λ x. ⌜ done x pages.new pool.new ≡ unmapped base (record { space = s; flags = pages.old; pool = pool.old; used = used }) id addr len ⌝ }
+    ensures { done result pages.new pool.new ≡ unmapped base (record { space = s; flags = pages.old; pool = pool.old; used = used }) id addr len }
 {
     if s.nextid <= id {
         return refuse(s, used, Refusal::BadHandle);
@@ -227,8 +229,8 @@ pub fn unmap(
 // The marks, and that of region r with them if it goes too.
 fn with_itself(marks: [bool; 32], r: usize, is_itself: bool) -> [bool; 32]
     requires { (r < 32) × (length marks ≡ 32) }
-    ensures* x_value { λ x. ⌜ x ≡ pick is_itself (set marks r true) marks ⌝ }
-    ensures* x_value_2 { λ x. ⌜ length x ≡ 32 ⌝ }
+    ensures value { result ≡ pick is_itself (set marks r true) marks }
+    ensures long { length result ≡ 32 }
 {
     if is_itself {
         let mut all = marks;
@@ -249,7 +251,7 @@ fn cut_all(
     is_itself: bool,
 ) -> CutOutcome
     requires { LiveIn s r × Passes s pages.old × Good pool.old base used }
-    ensures* { λ x. ⌜ done x pages.new pool.new ≡ record { result = result.Done; state = cut_state base (record { space = s; flags = pages.old; pool = pool.old; used = used }) (going_with s r is_itself) (destroy_cuts s r) r 0 0xfffffffffffff000 } ⌝ }
+    ensures { done result pages.new pool.new ≡ record { result = outcome.Done; state = cut_state base (record { space = s; flags = pages.old; pool = pool.old; used = used }) (going_with s r is_itself) (destroy_cuts s r) r 0 0xfffffffffffff000 } }
 {
     let after = vmar_cuts::destroy_cuts(s, pool, base, used, r);
     let children = vmar_doom::doomed(s, r, 0, END);
@@ -274,7 +276,7 @@ fn clear_in(
     is_itself: bool,
 ) -> CutOutcome
     requires { LiveIn s r × Passes s pages.old × Good pool.old base used }
-    ensures* { λ x. ⌜ done x pages.new pool.new ≡ cleared base (record { space = s; flags = pages.old; pool = pool.old; used = used }) r is_itself ⌝ }
+    ensures { done result pages.new pool.new ≡ cleared base (record { space = s; flags = pages.old; pool = pool.old; used = used }) r is_itself }
 {
     if has_dead(s) {
         return refuse(s, used, Refusal::ChildDead);
@@ -297,7 +299,7 @@ pub fn clear(
     is_itself: bool,
 ) -> CutOutcome
     requires { Passes s pages.old × Good pool.old base used }
-    ensures* { λ x. ⌜ done x pages.new pool.new ≡ cleared_call base (record { space = s; flags = pages.old; pool = pool.old; used = used }) id is_itself ⌝ }
+    ensures { done result pages.new pool.new ≡ cleared_call base (record { space = s; flags = pages.old; pool = pool.old; used = used }) id is_itself }
 {
     if s.nextid <= id {
         return refuse(s, used, Refusal::BadHandle);

@@ -1,5 +1,7 @@
 // zircon-object/src/vm/vmar.rs: `check_user_range`, on a space that passes its check. The Rust looks up each page; here a mapping is looked up once and its pages are
 // read in one go, so that the time does not grow with the range.
+#![tactic(auto)]
+
 ghost use Rattle.std.specs.Prelude.{◌≡◌, true, ◌+◌, ◌-◌, ◌*◌, ◌/◌, ◌^◌, ◌≤◌, ◌<◌, length};
 ghost use Rattle.common.specs.Flags.{known_page};
 ghost use Rattle.paging.specs.Choice.{Decided};
@@ -10,14 +12,14 @@ use common::defs::{MMUFlags, PAGE_SIZE, VirtAddr};
 use refusal::Refusal;
 use space::{LAST, MAPPINGS, Mapping, NO_REGION, Space};
 
-#[derive(Drop)]
+#[derive(Clone, Copy)]
 pub enum UserRangeResult {
     Allowed,
     Refused(Refusal),
 }
 
 // What the pages from one on are allowed.
-#[derive(Drop)]
+#[derive(Clone, Copy)]
 pub enum Stretch {
     // So many of them are.
     Allowed(u64),

@@ -1,5 +1,7 @@
 // Makes the calls that standard input lists, one a line, on a pool of up to 64 frames and a space, and writes an answer for each. docs/REPLAY.md
 // has the lines and the answers. Nothing grows with the input: of a line that is longer than any readable one the rest is passed over.
+#![tactic(auto)]
+
 use libc::STDIN_FILENO;
 use std::num::wrapping_add_u64;
 use trace_line::{Fields, Line, What};
@@ -10,7 +12,7 @@ use trace_table::Answer;
 const BAD_SPACE: u64 = 12;
 
 // The pool apart from its words, the space apart from its page flags, and how far the program has come.
-#[derive(Drop)]
+#[derive(Clone, Copy)]
 struct State {
     held: Held,
     base: u64,

@@ -1,5 +1,7 @@
 // Makes the calls that standard input lists, one a line, on a pool of 8 frames and a fresh user root, and writes an answer for each. docs/REPLAY.md has
 // the lines and the answers. Nothing grows with the input: of a line that is longer than any readable one the rest is passed over.
+#![tactic(auto)]
+
 use common::defs::{MMUFlags, VmarFlags};
 use libc::STDIN_FILENO;
 use refusal::Refusal;
@@ -18,7 +20,7 @@ const POOL_BASE: u64 = 0x10_0000;
 const LINE: u64 = 16;
 
 // The space apart from its page flags, the frames in use, and how far the program has come.
-#[derive(Drop)]
+#[derive(Clone, Copy)]
 struct State {
     space: AddressSpace,
     used: usize,
@@ -33,7 +35,7 @@ struct State {
 }
 
 // Refusal number, value, and frames in use afterwards.
-#[derive(Drop)]
+#[derive(Clone, Copy)]
 struct Answer {
     number: u64,
     value: u64,

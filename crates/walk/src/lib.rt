@@ -1,4 +1,6 @@
 // kernel-hal/src/utils/page_table.rs: `get_entry_mut`, the walk that every call begins with.
+#![tactic(auto)]
+
 ghost use Rattle.std.specs.Prelude.{◌≡◌, ◌/◌, ◌≤◌};
 ghost use Rattle.paging.specs.Level.{span, index};
 ghost use Rattle.form.specs.Form.{Good};
@@ -9,7 +11,7 @@ use common::vm::PageSize;
 use x86_64::vm::X86PTE;
 
 // The leaf over an address: the frame and the place of its entry, and its size.
-#[derive(Drop)]
+#[derive(Clone, Copy)]
 pub struct LeafEntry {
     pub frame: usize,
     pub place: usize,
@@ -17,14 +19,14 @@ pub struct LeafEntry {
 }
 
 // The unused entry that a walk stops at.
-#[derive(Drop)]
+#[derive(Clone, Copy)]
 pub struct OpenEntry {
     pub level: usize,
     pub frame: usize,
     pub place: usize,
 }
 
-#[derive(Drop)]
+#[derive(Clone, Copy)]
 pub enum Walk {
     Leaf(LeafEntry),
     Open(OpenEntry),

@@ -15,7 +15,7 @@ use common::defs::{MMUFlags, PhysAddr};
 use common::vm::PageSize;
 
 // The bits of an entry beside its address.
-#[derive(Drop)]
+#[derive(Clone, Copy)]
 pub struct PTF(pub u64);
 
 impl PTF {
@@ -81,7 +81,7 @@ fn phys_addr(paddr: u64) -> PhysAddr
 }
 
 // Page table entry on x86.
-#[derive(Drop)]
+#[derive(Clone, Copy)]
 pub struct X86PTE(pub u64);
 
 impl X86PTE {

@@ -1,0 +1,16 @@
+-- `sweep_all`: the ranks above the present one have been read.
+use mathlib.Core.Path.{◌≡◌, sym, ◌∙◌, subst}
+use native.Mathlib.Omega.{arith}
+use Prim.Native.Nat.{ℕ, ◌+◌, ◌-◌, ◌*◌, ◌/◌}
+use lib.ListN.{length}
+use Rattle.form.specs.Form.{Sized}
+use Rattle.form.specs.Sweep.{Sweep, goes, stops}
+use Rattle.form.proofs.Answers.{passed, refused}
+use Rattle.form.proofs.Steps.{next_rank}
+use Rattle.form.proofs.sweep_all.Given as goal
+
+abbrev pub invariant-loop-rank : goal.invariant-loop-rank
+invariant-loop-rank l = (length l.initial.at ≡ 1024) × Sized (length l.pool) l.base l.used × Sweep l.pool (l.base / 4096) l.used l.at l.rank 0
+
+abbrev pub decreases-loop-rank : goal.decreases-loop-rank
+decreases-loop-rank l = l.rank

@@ -1,0 +1,16 @@
+use borrow.Author.Rules.{rules}
+use Prim.Native.Nat.{ℕ, ◌+◌, ◌-◌, ◌≤◌}
+use mathlib.Core.Path.{◌≡◌}
+use native.Mathlib.Omega.{arith}
+use lib.ListN.{get_or}
+use Rattle.scan.proofs.Gather.{Gathered, nothing, more, gathered}
+use Rattle.space_pages.proofs.are_zero.Goals as goal
+
+pub loop-j-init : goal.loop-j-init
+loop-j-init c = (omega arith, nothing _)
+
+pub loop-j-preserved : goal.loop-j-preserved
+loop-j-preserved c = (omega arith, more _ _ _ _ c.loop-j.invariant.1 (λ e. e) (λ e. e))
+
+pub returns : goal.returns
+returns c = gathered _ _ c.loop-j.j _ c.loop-j.invariant.0 c.loop-j-test.false c.loop-j.invariant.1

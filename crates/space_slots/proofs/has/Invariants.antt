@@ -1,0 +1,14 @@
+-- `has`: the places passed hold something else.
+use borrow.Author.Rules.{rules}
+use Prim.Native.Nat.{ℕ, ◌-◌, ◌≤◌, ◌<◌}
+use mathlib.Core.Path.{◌≡◌}
+use native.Mathlib.Omega.{arith}
+use lib.ListN.{get_or}
+use borrow.Author.Count.{below_none, below_more}
+use Rattle.space_slots.proofs.has.Given as goal
+
+abbrev pub invariant-loop-k : goal.invariant-loop-k
+invariant-loop-k l = (l.k ≤ l.n) × ((j : ℕ) → j < l.k → get_or l.list j 0 ≡ l.x → ⊥)
+
+abbrev pub decreases-loop-k : goal.decreases-loop-k
+decreases-loop-k l = l.n - l.k

@@ -1,0 +1,24 @@
+-- `put_pieces`: the words before i are pieces, the others as they were.
+use Prim.Native.Nat.{ℕ, ◌+◌, ◌-◌, ◌*◌, ◌^◌, ◌<◌, ◌≤◌}
+use mathlib.Core.Path.{◌≡◌, refl, ap, sym, ◌∙◌}
+use mathlib.Core.List.{◌++◌}
+use native.Mathlib.Omega.{arith}
+use lib.ListN.{length, drop, length-set}
+use borrow.Author.Rules.{rules}
+use Rattle.common.specs.Page.{size_of}
+use Rattle.common.specs.declared.vm.PageSize.{PageSize}
+use Rattle.x86_64.specs.Entry.{addr_of, flags_of}
+use Rattle.pool.specs.Pool.{listed}
+use Rattle.pool.proofs.Memory.{list_none, list_more, list_all}
+use Rattle.table_map.specs.Map.{leaf_for}
+use Rattle.table_split.specs.Split.{piece}
+use Rattle.table_split.proofs.Pieces.{product}
+use Rattle.common.proofs.Pages.{size_le}
+use Rattle.table_split.proofs.put_pieces.Given as goal
+
+abbrev pub invariant-loop-i : goal.invariant-loop-i
+invariant-loop-i l =
+    (l.i ≤ 512) × (length l.initial.table ≡ 512) × (length l.table ≡ 512) × (l.paddr < 2 ^ 52) × (l.step ≤ 2 ^ 30) × (l.table ≡ listed l.i (at l.size l.paddr l.flags.0 l.step) ++ drop l.i l.initial.table)
+
+abbrev pub decreases-loop-i : goal.decreases-loop-i
+decreases-loop-i l = 512 - l.i

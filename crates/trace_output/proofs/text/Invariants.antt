@@ -1,0 +1,12 @@
+-- `text`: the index stays within the bytes; the buffer keeps its length.
+use mathlib.Core.Path.{◌≡◌}
+use Prim.Native.Nat.{◌≤◌, ◌-◌}
+use lib.ListN.{length}
+use borrow.Author.Rules.{rules}
+use Rattle.trace_output.proofs.text.Given as goal
+
+abbrev pub invariant-loop-i : goal.invariant-loop-i
+invariant-loop-i l = (l.i ≤ length l.bytes) × (length l.out ≡ length l.initial.out)
+
+abbrev pub decreases-loop-i : goal.decreases-loop-i
+decreases-loop-i l = length l.bytes - l.i

@@ -1,0 +1,22 @@
+-- `cut_parts`: the cuts that are left stay those of all places.
+use Prim.Native.Nat.{◌-◌, ◌/◌, ◌≤◌}
+use mathlib.Core.Path.{◌≡◌, refl, ◌∙◌, ap}
+use mathlib.Core.List.{List}
+use native.Mathlib.Omega.{arith}
+use lib.ListN.{length}
+use borrow.Author.Rules.{rules}
+use Rattle.form.specs.Form.{Good}
+use Rattle.space.proofs.Facts.{mapping_place_lem}
+use Rattle.table_cuts.specs.Cuts.{Cut, cut_all}
+use Rattle.vmar_cuts.specs.Cuts.{collect, part_at, parts}
+use Rattle.vmar_cuts.proofs.Collects.{collect_start, cuts_more, cuts_end}
+use Rattle.vmar_cuts.proofs.Parts.{place_fits}
+use Rattle.vmar_cuts.proofs.cut_parts.Given as goal
+
+abbrev pub invariant-loop-k : goal.invariant-loop-k
+invariant-loop-k l =
+    (l.k ≤ l.s.mapcount) × (l.s.mapcount ≤ 64) × Good l.pool l.base l.in_use × (length l.pool ≡ length l.initial.pool)
+    × (cut_all (l.base / 4096) (collect (part_at l.s l.r l.begin l.end) l.k (l.s.mapcount - l.k)) (record { pool = l.pool; used = l.in_use }) ≡ cut_all (l.base / 4096) (parts l.s l.r l.begin l.end) (record { pool = l.initial.pool; used = l.used }))
+
+abbrev pub decreases-loop-k : goal.decreases-loop-k
+decreases-loop-k l = l.s.mapcount - l.k

@@ -1,0 +1,10 @@
+-- `has_frames_for_unmap`: what is left of the room after all non-empty cuts.
+use Rattle.vmar_cuts.specs.Cuts.{parts, children}
+use Rattle.vmar_cuts.proofs.Collects.{both_room}
+use borrow.Author.Rules.{rules}
+use Rattle.vmar_cuts.proofs.has_frames_for_unmap.Goals as goal
+
+pub returns : goal.returns
+returns c =
+    let a = c.args in
+    both_room (parts a.s a.r a.begin a.end) (children a.s 32 a.r a.begin a.end) a.free _ _ c.room_in_parts-own.ensures c.room_in_children-left.ensures

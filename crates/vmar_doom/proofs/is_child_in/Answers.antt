@@ -1,0 +1,17 @@
+-- `is_child_in`: of the region, and within the range.
+use borrow.Author.Rules.{rules}
+use mathlib.Core.Path.{refl}
+use borrow.Author.Tests.{eq-eqb, ne_eqb}
+use Rattle.scan.proofs.Picks.{on, off}
+use Rattle.space.specs.Range.{inside}
+use Rattle.vmar_doom.specs.Doomed.{is_child_in}
+use borrow.Author.Rules.{rules}
+use Rattle.vmar_doom.proofs.is_child_in.Goals as goal
+
+pub returns-then-g-r : goal.returns-then-g-r
+unfolding is_child_in
+returns-then-g-r c = off _ _ _ _ (ne_eqb _ _ c.if-g-r.true) refl
+
+pub returns : goal.returns
+unfolding is_child_in
+returns c = on _ _ _ _ (eq-eqb _ _ c.if-g-r.false) c.within.ensures

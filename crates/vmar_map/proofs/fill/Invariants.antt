@@ -1,0 +1,17 @@
+-- `fill`: byte after byte.
+use borrow.Author.Rules.{rules}
+use Prim.Native.Nat.{ℕ, ◌+◌, ◌-◌, ◌≤◌}
+use mathlib.Core.Path.{◌≡◌, refl, ◌∙◌, ap}
+use mathlib.Core.List.{List}
+use native.Mathlib.Omega.{arith}
+use lib.ListN.{length, set, length-set}
+use Rattle.vmar_map.specs.Map.{filled}
+use Rattle.vmar_map.specs.declared.MapExtResult.TheVariants as result
+use Rattle.vmar_map.proofs.Maps.{filled_more, filled_none}
+use Rattle.vmar_map.proofs.fill.Given as goal
+
+abbrev pub invariant-loop-j : goal.invariant-loop-j
+invariant-loop-j l = (l.j ≤ l.n) × (l.at + l.n ≤ length l.initial.flags) × (length l.flags ≡ length l.initial.flags) × (l.flags ≡ filled l.initial.flags l.at l.j l.b)
+
+abbrev pub decreases-loop-j : goal.decreases-loop-j
+decreases-loop-j l = l.n - l.j

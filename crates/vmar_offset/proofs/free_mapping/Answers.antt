@@ -1,0 +1,28 @@
+use borrow.Author.Rules.{rules}
+use Prim.Native.Nat.{◌-◌, ◌≤◌}
+use mathlib.Core.Path.{◌≡◌, refl, sym, ◌∙◌}
+use native.Mathlib.Omega.{arith}
+use Rattle.scan.specs.Scan.{first}
+use Rattle.scan.proofs.Scans.{first_here, first_later, first_none}
+use Rattle.vmar_offset.specs.Offset.{is_free_mapping, free_mapping, taken}
+use Rattle.vmar_offset.specs.declared.Offset.TheVariants as offset
+use Rattle.vmar_offset.specs.declared.OffsetResult.TheVariants as result
+use Rattle.vmar_offset.proofs.free_mapping.Goals as goal
+
+pub loop-i-init : goal.loop-i-init
+loop-i-init c = (omega arith, refl)
+
+pub returns-then-not-m : goal.returns-then-not-m
+returns-then-not-m c =
+    let loop = c.loop-i in
+    let a = c.args in
+    sym (loop.invariant.1 ∙ first_here (is_free_mapping a.s) loop.i 64 c.loop-i-test.true c.if-not-m.true)
+
+pub loop-i-preserved : goal.loop-i-preserved
+loop-i-preserved c =
+    let loop = c.loop-i in
+    let a = c.args in
+    (omega arith, loop.invariant.1 ∙ first_later (is_free_mapping a.s) loop.i 64 c.loop-i-test.true c.if-not-m.false)
+
+pub returns : goal.returns
+returns c = sym (c.loop-i.invariant.1 ∙ first_none (is_free_mapping c.args.s) c.loop-i.i 64 c.loop-i-test.false)

@@ -1,0 +1,7 @@
+-- `put`: the flags, then the record.
+use borrow.Author.Rules.{rules}
+use Rattle.common.proofs.Sets.{byte}
+use Rattle.vmar_overwrite.proofs.put.Goals as goal
+
+pub overflow_cast-flags : goal.overflow_cast-flags
+overflow_cast-flags c = record { fits = byte c.args.flags.0 c.requires.4 }

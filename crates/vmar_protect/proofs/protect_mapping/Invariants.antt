@@ -1,0 +1,16 @@
+-- `protect_mapping`: page after page.
+use borrow.Author.Rules.{rules}
+use mathlib.Core.Path.{◌≡◌, refl, ◌∙◌, ap}
+use Prim.Native.Nat.{◌+◌, ◌-◌, ◌/◌, ◌≤◌}
+use native.Mathlib.Omega.{arith}
+use lib.ListN.{length}
+use Rattle.form.specs.Form.{Good}
+use Rattle.vmar_protect.specs.Protect.{Lent, lent, page_done, pages_done}
+use Rattle.vmar_protect.proofs.Buffers.{kept_by, page_kept, pages_none, pages_more}
+use Rattle.vmar_protect.proofs.protect_mapping.Given as goal
+
+abbrev pub invariant-loop-n : goal.invariant-loop-n
+invariant-loop-n l = (l.n ≤ l.count) × (length l.pages ≡ length l.initial.pages) × (length l.pool ≡ length l.initial.pool) × Good l.pool l.base l.used × (lent l.pages l.pool ≡ pages_done (lent l.initial.pages l.initial.pool) (l.base / 4096) l.m l.slot l.flags.0 l.first l.n)
+
+abbrev pub decreases-loop-n : goal.decreases-loop-n
+decreases-loop-n l = l.count - l.n

@@ -1,0 +1,17 @@
+-- `kept_regions`: slot after slot.
+use borrow.Author.Rules.{rules}
+use Prim.Native.Nat.{ℕ, ◌+◌, ◌-◌, ◌≤◌}
+use mathlib.Core.Path.{◌≡◌, ◌∙◌, ap}
+use mathlib.Core.List.{List}
+use native.Mathlib.Omega.{arith}
+use lib.ListN.{set}
+use Rattle.space.specs.declared.Region.{Region}
+use Rattle.vmar_prune.specs.Prune.{regions_to}
+use Rattle.vmar_prune.proofs.Parts.{regions_none, regions_more}
+use Rattle.vmar_prune.proofs.kept_regions.Given as goal
+
+abbrev pub invariant-loop-i : goal.invariant-loop-i
+invariant-loop-i l = (l.i ≤ 32) × (l.regions ≡ regions_to l.marks l.s.regions l.i)
+
+abbrev pub decreases-loop-i : goal.decreases-loop-i
+decreases-loop-i l = 32 - l.i

@@ -1,0 +1,16 @@
+-- `has_dead`: the places passed hold live regions.
+use borrow.Author.Rules.{rules}
+use Prim.Native.Nat.{ℕ, ◌+◌, ◌-◌, ◌*◌, ◌/◌, ◌≤◌, ◌<◌}
+use mathlib.Core.Path.{◌≡◌, refl, sym, ◌∙◌}
+use native.Mathlib.Omega.{arith}
+use Rattle.scan.specs.Scan.{some}
+use Rattle.scan.proofs.Scans.{some_here, some_later, some_none}
+use Rattle.space.proofs.Facts.{region_place_lem}
+use Rattle.vmar_unmap.specs.Unmap.{dead_at, has_dead}
+use Rattle.vmar_unmap.proofs.has_dead.Given as goal
+
+abbrev pub invariant-loop-k : goal.invariant-loop-k
+invariant-loop-k l = (l.k ≤ l.s.regcount) × (has_dead l.s ≡ some (dead_at l.s) l.k l.s.regcount)
+
+abbrev pub decreases-loop-k : goal.decreases-loop-k
+decreases-loop-k l = l.s.regcount - l.k
