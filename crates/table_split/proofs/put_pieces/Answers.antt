@@ -13,11 +13,8 @@ use Rattle.table_map.specs.Map.{leaf_for}
 use Rattle.table_split.specs.Split.{piece}
 use Rattle.table_split.proofs.Pieces.{product}
 use Rattle.common.proofs.Pages.{size_le}
+use Rattle.table_split.proofs.put_pieces.Invariants.{word_at}
 use Rattle.table_split.proofs.put_pieces.Goals as goal
-
--- the word of piece j, as the loop computes it
-abbrev at : PageSize → ℕ → ℕ → ℕ → ℕ → ℕ
-at s pa f step j = leaf_for s (pa + j * step) f
 
 pub loop-i-init : goal.loop-i-init
 loop-i-init c =
@@ -54,7 +51,7 @@ loop-i-preserved c =
       simp length-set i.2,
       i.3,
       i.4,
-      rw (c.leaf.ensures, i.5) (list_more (at c.args.size c.addr-paddr.result c.flags-flags.result.0 c.size-step.result) x.i c.args.table.now l),
+      rw (c.leaf.ensures, i.5) (list_more (word_at c.args.size c.addr-paddr.result c.flags-flags.result.0 c.size-step.result) x.i c.args.table.now l),
     )
 
 pub shape_of-table : goal.shape_of-table
@@ -70,8 +67,8 @@ returns c =
     let t = c.args.table.now in
     let s : PageSize = c.args.size in
     let w : ℕ = c.args.leaf.0 in
-    list_all (at s pa.result fl.result.0 st.result) t x.table x.i (omega (arith, i.1, i.0)) (omega (arith, i.1, i.2)) i.5
-    ∙ ap (λ (n : ℕ). listed n (at s pa.result fl.result.0 st.result)) i.1
-    ∙ ap (λ (n : ℕ). listed 512 (at s n fl.result.0 st.result)) pa.ensures
-    ∙ ap (λ (n : ℕ). listed 512 (at s (addr_of w) n st.result)) fl.ensures
-    ∙ ap (λ (n : ℕ). listed 512 (at s (addr_of w) (flags_of w) n)) st.ensures
+    list_all (word_at s pa.result fl.result.0 st.result) t x.table x.i (omega (arith, i.1, i.0)) (omega (arith, i.1, i.2)) i.5
+    ∙ ap (λ (n : ℕ). listed n (word_at s pa.result fl.result.0 st.result)) i.1
+    ∙ ap (λ (n : ℕ). listed 512 (word_at s n fl.result.0 st.result)) pa.ensures
+    ∙ ap (λ (n : ℕ). listed 512 (word_at s (addr_of w) n st.result)) fl.ensures
+    ∙ ap (λ (n : ℕ). listed 512 (word_at s (addr_of w) (flags_of w) n)) st.ensures

@@ -16,9 +16,13 @@ use Rattle.table_split.proofs.Pieces.{product}
 use Rattle.common.proofs.Pages.{size_le}
 use Rattle.table_split.proofs.put_pieces.Given as goal
 
+-- the word of piece j, as the loop computes it
+abbrev pub word_at : PageSize → ℕ → ℕ → ℕ → ℕ → ℕ
+word_at s pa f step j = leaf_for s (pa + j * step) f
+
 abbrev pub invariant-loop-i : goal.invariant-loop-i
 invariant-loop-i l =
-    (l.i ≤ 512) × (length l.initial.table ≡ 512) × (length l.table ≡ 512) × (l.paddr < 2 ^ 52) × (l.step ≤ 2 ^ 30) × (l.table ≡ listed l.i (at l.size l.paddr l.flags.0 l.step) ++ drop l.i l.initial.table)
+    (l.i ≤ 512) × (length l.initial.table ≡ 512) × (length l.table ≡ 512) × (l.paddr < 2 ^ 52) × (l.step ≤ 2 ^ 30) × (l.table ≡ listed l.i (word_at l.size l.paddr l.flags.0 l.step) ++ drop l.i l.initial.table)
 
 abbrev pub decreases-loop-i : goal.decreases-loop-i
 decreases-loop-i l = 512 - l.i
