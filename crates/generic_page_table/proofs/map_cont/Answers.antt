@@ -52,7 +52,7 @@ map_cont-requires c =
     let ruled : (let a = c.args in range_in_rule a.vaddr a.size ≡ true) = sym c.is_range_in_rule.ensures ∙ not-false _ c.if-not-is_range_in_rule.false-raw in
     let whole : (let a = c.args in page_aligned a.vaddr a.size ≡ true) = sym c.is_page_aligned.ensures ∙ not-false _ c.if-not-is_page_aligned.false-raw in
     let below : (let a = c.args in physical_fits a.paddr a.size ≡ true) = sym c.is_physical.ensures ∙ not-false _ c.if-not-is_physical.false-raw in
-    let a = c.args in record { good good; range = range a.vaddr a.size a.paddr ruled whole below }
+    let a = c.args in record { good = good; range = range a.vaddr a.size a.paddr ruled whole below }
 
 pub returns : goal.returns
 returns c =

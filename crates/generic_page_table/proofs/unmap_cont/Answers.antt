@@ -34,7 +34,7 @@ unmap_cont-requires c =
     let good : (let a = c.args in Good a.pool.now a.base a.used) = decided_true _ c.is_good.result c.is_good.ensures (not-false _ c.if-not-is_good.false-raw) in
     let ruled : (let a = c.args in range_in_rule a.vaddr a.size ≡ true) = sym c.is_range_in_rule.ensures ∙ not-false _ c.if-not-is_range_in_rule.false-raw in
     let a = c.args in
-    let q = pages a.vaddr a.size whole in record { good good; aligned = (q.0, q.1, halves a.vaddr a.size ruled) }
+    let q = pages a.vaddr a.size whole in record { good = good; aligned = (q.0, q.1, halves a.vaddr a.size ruled) }
 
 pub returns : goal.returns
 returns c =
