@@ -1,10 +1,10 @@
 -- Document 01's numbers: A by computing, B from the two walks of a range's ends.
 use Prim.Native.Nat.{ℕ, suc, ◌+◌, ◌-◌, ◌/◌, ◌%◌, ◌^◌, ◌<◌, ◌≤◌}
-use mathlib.Core.Path.{◌≡◌, refl, sym, ap, ◌∙◌}
+use mathlib.Core.Path.{◌≡◌, refl, ap, ◌∙◌}
 use mathlib.Core.Logic.{inl}
 use native.Mathlib.Omega.{arith}
 use lib.Dec.{lit<}
-use Rattle.paging.specs.Level.{span, Within}
+use Rattle.paging.specs.Level.{span}
 use Rattle.paging.specs.Table.{Formed}
 use Rattle.paging.specs.Need.{splits, left, need, over}
 use Rattle.paging.specs.Cut.{frames, Cuts}

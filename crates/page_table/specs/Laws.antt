@@ -1,5 +1,5 @@
 -- What is proved of the table calls as a whole.
-use Rattle.std.specs.Prelude.{ℕ, ◌<◌, ◌-◌, ◌/◌, ◌≡◌, true, List}
+use Rattle.std.specs.Prelude.{ℕ, ◌<◌, ◌/◌, ◌≡◌, true, List}
 use Rattle.paging.specs.Level.{Canonical}
 use Rattle.paging.specs.Table.{view}
 use Rattle.common.specs.Page.{level_of, size_of}

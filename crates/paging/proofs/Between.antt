@@ -1,19 +1,19 @@
 -- Every entry of a range rewritten: who sees it.
 use Prim.Native.Nat.{ℕ, zero, suc, ◌+◌, ◌-◌, ◌*◌, ◌/◌, ◌%◌, ◌^◌, ◌<◌, ◌≤◌}
 use mathlib.Core.Path.{◌≡◌, refl, sym, ap, ◌∙◌, subst}
-use mathlib.Core.Bool.{Bool, true, false}
+use mathlib.Core.Bool.{true, false}
 use mathlib.Core.Logic.{◌⊎◌, inl, inr, ⊎_elim}
 use native.Mathlib.Omega.{arith}
 use native.Mathlib.Nat.{div-add-mod', div-eq_of_lt-le, mod-lt, mul_assoc, mul-mod_left, mul-le-mul_right, lt_of_mul-lt-mul_right, add-mul}
 use lib.Pow.{pow-add}
 use Rattle.paging.specs.Level.{span, index, half, Canonical}
 use Rattle.paging.specs.Format.{Kind, nothing, leaf, table, by_kind, Format, Lawful, Entry}
-use Rattle.paging.specs.Table.{View, view, hit, walk, shows, Formed}
+use Rattle.paging.specs.Table.{View, view, shows, Formed}
 use Rattle.paging.specs.Need.{falls, leaf_level, over}
 use Rattle.paging.specs.Steps as steps
 use Rattle.paging.specs.Steps.{rewritten, Rewritten}
-use Rattle.paging.proofs.Cases.{same?, below?, no_truth}
-use Rattle.paging.proofs.Levels.{span_pos, index_lt}
+use Rattle.paging.proofs.Cases.{same?, below?}
+use Rattle.paging.proofs.Levels.{span_pos}
 use Rattle.paging.proofs.Formats.{Is, is}
 use Rattle.paging.proofs.Walks.{NoTable, hit_level, hit_frame}
 use Rattle.paging.proofs.Changes.{End, end, outside, inside, formed_put}

@@ -1,16 +1,14 @@
 -- A range cut out of a table: demand 3 of the README, over any format.
-use Prim.Native.Nat.{ℕ, zero, suc, ◌+◌, ◌-◌, ◌*◌, ◌/◌, ◌%◌, ◌^◌, ◌<◌, ◌≤◌}
+use Prim.Native.Nat.{ℕ, zero, suc, ◌+◌, ◌-◌, ◌*◌, ◌/◌, ◌%◌, ◌<◌, ◌≤◌}
 use mathlib.Core.Path.{◌≡◌, refl, sym, ap, ◌∙◌, subst}
-use mathlib.Core.Bool.{Bool, true, false, ◌&&◌, not}
+use mathlib.Core.Bool.{true, false}
 use mathlib.Core.Logic.{◌⊎◌, inl, inr, ⊎_elim}
 use native.Mathlib.Omega.{arith}
-use lib.Dec.{ltb}
 use borrow.Author.Tests.{le-ltb}
-use Rattle.paging.specs.Choice.{pick}
-use Rattle.paging.specs.Level.{span, index, half, Canonical, Within}
-use Rattle.paging.specs.Format.{Kind, nothing, leaf, table, by_kind, Format, Lawful, Entry, blank}
+use Rattle.paging.specs.Level.{span, Canonical, Within}
+use Rattle.paging.specs.Format.{Kind, nothing, leaf, table, by_kind, Format, Lawful, blank}
 use Rattle.paging.specs.Table.{View, view, shows, nowhere, translated, translates, Formed}
-use Rattle.paging.specs.Cut.{partly, sum, required, under, root_block, frames, Cutting, Cuts, CutsHold}
+use Rattle.paging.specs.Cut.{partly, required, under, root_block, frames, Cutting, CutsHold}
 use Rattle.paging.specs.Need.{falls, splits, left, leaf_level, over}
 use Rattle.paging.specs.Steps.{rewritten, Ranged}
 use Rattle.paging.proofs.Cases.{below?, no_truth}

@@ -1,17 +1,15 @@
 -- The splits at one address: what they take, and what they leave.
-use Prim.Native.Nat.{ℕ, zero, suc, ◌+◌, ◌-◌, ◌*◌, ◌/◌, ◌%◌, ◌^◌, ◌<◌, ◌≤◌}
+use Prim.Native.Nat.{ℕ, zero, suc, ◌+◌, ◌-◌, ◌/◌, ◌%◌, ◌<◌, ◌≤◌}
 use mathlib.Core.Path.{◌≡◌, refl, sym, ap, ◌∙◌, subst}
-use mathlib.Core.Bool.{Bool, true, false}
-use mathlib.Core.Logic.{◌⊎◌, inl, inr, ⊎_elim}
+use mathlib.Core.Bool.{true, false}
+use mathlib.Core.Logic.{◌⊎◌, ⊎_elim}
 use native.Mathlib.Omega.{arith}
-use lib.Dec.{eqb, ltb}
 use borrow.Author.Tests.{eq-eqb, lt-ltb}
-use Rattle.paging.specs.Choice.{pick}
 use Rattle.paging.specs.Level.{span, index, Canonical}
 use Rattle.paging.specs.Format.{Kind, nothing, leaf, table, by_kind, Format, Lawful}
 use Rattle.paging.specs.Table.{View, view, shows, translates, Formed}
 use Rattle.paging.specs.Need.{falls, splits, left, leaf_level, over}
-use Rattle.paging.specs.Split.{Split, Splitting}
+use Rattle.paging.specs.Split.{Splitting}
 use Rattle.paging.specs.Steps as steps
 use Rattle.paging.specs.Steps.{SplitAt}
 use Rattle.paging.proofs.Cases.{same?, no_truth}

@@ -1,22 +1,22 @@
 -- The sum over the leaves of a table is what its two ends need.
-use Prim.Native.Nat.{ℕ, zero, suc, ◌+◌, ◌-◌, ◌*◌, ◌/◌, ◌%◌, ◌^◌, ◌<◌, ◌≤◌}
-use mathlib.Core.Path.{◌≡◌, refl, sym, ap, ◌∙◌, subst}
+use Prim.Native.Nat.{ℕ, zero, suc, ◌+◌, ◌-◌, ◌*◌, ◌/◌, ◌%◌, ◌<◌, ◌≤◌}
+use mathlib.Core.Path.{◌≡◌, refl, sym, ap, ◌∙◌}
 use mathlib.Core.Bool.{Bool, true, false}
 use mathlib.Core.Logic.{◌⊎◌, inl, inr, ⊎_elim}
 use native.Mathlib.Omega.{arith}
-use lib.Dec.{eqb, ltb, lit<}
+use lib.Dec.{eqb}
 use lib.Pow.{pow_pos}
 use native.Mathlib.Nat.{mul-mod_left}
-use borrow.Author.Tests.{lt-ltb, le-ltb, eq-eqb, ne_eqb}
+use borrow.Author.Tests.{lt-ltb, le-ltb}
 use Rattle.paging.specs.Choice.{pick}
 use Rattle.paging.specs.Level.{span, index, half, Canonical, Within}
 use Rattle.paging.specs.Format.{Kind, nothing, leaf, table, by_kind, Format, Lawful}
 use Rattle.paging.specs.Table.{walk, View, view, seen, shows}
-use Rattle.paging.specs.Cut.{partly, sum, required, under, root_block, frames}
+use Rattle.paging.specs.Cut.{required, under, root_block, frames}
 use Rattle.paging.specs.Need.{splits, left, need, leaf_level, over}
 use Rattle.paging.proofs.Cases.{same?, below?}
-use Rattle.paging.proofs.Levels.{index_lt, above, half_is, K, Side, lower, upper, side, all_blocks}
-use Rattle.paging.proofs.Counts.{sum_ext, sum_add, sum_none, focus, same_test, place_of, block_above, share, share_in, share_out, required_is, splits_aligned, splits_most, left_most, aligned_under}
+use Rattle.paging.proofs.Levels.{above, half_is, K, Side, lower, upper, side, all_blocks}
+use Rattle.paging.proofs.Counts.{sum_ext, sum_add, focus, place_of, block_above, share, share_in, share_out, required_is, splits_aligned, splits_most, left_most, aligned_under}
 
 module _ (F : Format) (W : ℕ → ℕ → ℕ) where
   -- the level of the leaf that a walk from frame n ends at

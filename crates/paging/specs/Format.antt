@@ -3,7 +3,7 @@
 --
 -- In this order: what a word can be, a format, the laws that it has to meet, the words that its rules write, the test for
 -- them, the pieces of a split leaf, and the theorems that hold of every format that meets the laws.
-use Rattle.std.specs.Prelude.{ℕ, suc, ◌+◌, ◌-◌, ◌*◌, ◌%◌, ◌^◌, ◌≤◌, ◌<◌, ◌≡◌, Bool, ◌&&◌, eqb, ltb}
+use Rattle.std.specs.Prelude.{ℕ, suc, ◌+◌, ◌*◌, ◌%◌, ◌^◌, ◌≤◌, ◌<◌, ◌≡◌, Bool, ◌&&◌, eqb, ltb}
 use Rattle.paging.specs.Choice.{Decided}
 use Rattle.paging.specs.Level.{span, index}
 

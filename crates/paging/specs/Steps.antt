@@ -3,7 +3,7 @@
 --
 -- In this order: the splits at one address, every entry of a range rewritten, both together.
 -- Frames are taken one after the other: when k are taken, those that are In k, and the next is `next k`.
-use Rattle.std.specs.Prelude.{ℕ, suc, ◌+◌, ◌*◌, ◌/◌, ◌%◌, ◌^◌, ◌≤◌, ◌<◌, ◌≡◌, ◌⊎◌}
+use Rattle.std.specs.Prelude.{ℕ, suc, ◌+◌, ◌*◌, ◌/◌, ◌%◌, ◌≤◌, ◌<◌, ◌≡◌}
 use Rattle.paging.specs.Level.{span, index}
 use Rattle.paging.specs.Format.{Format}
 use Rattle.paging.specs.Table.{hit, walk, View, view}

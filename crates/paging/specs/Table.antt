@@ -9,7 +9,7 @@
 --                                +---> page of 1 GiB
 --
 -- In this order: where a walk ends, what is seen there, what an address translates to, and when a table is well formed.
-use Rattle.std.specs.Prelude.{ℕ, zero, suc, ◌+◌, ◌-◌, ◌%◌, ◌<◌, ◌≡◌}
+use Rattle.std.specs.Prelude.{ℕ, zero, suc, ◌+◌, ◌%◌, ◌<◌, ◌≡◌}
 use Rattle.paging.specs.Level.{span, index}
 use Rattle.paging.specs.Format.{table, by_kind, Format, Entry}
 

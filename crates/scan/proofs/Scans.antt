@@ -1,11 +1,10 @@
 -- One turn of a scan and its end, for loops; and what a scan tells of each index.
 use Prim.Native.Nat.{ℕ, zero, suc, ◌+◌, ◌-◌, ◌≤◌, ◌<◌}
-use mathlib.Core.Path.{◌≡◌, refl, sym, ◌∙◌, subst}
+use mathlib.Core.Path.{◌≡◌, refl, sym, subst}
 use mathlib.Core.Bool.{Bool, true, false}
 use mathlib.Core.Logic.{◌⊎◌, inl, inr, ⊎_elim}
 use native.Mathlib.Omega.{arith}
 use native.Mathlib.Nat.{eq-or-lt_of_le}
-use Rattle.paging.specs.Choice.{pick}
 use Rattle.paging.proofs.Cases.{no_truth}
 use Rattle.scan.specs.Scan.{first_of, some_of, first, some}
 

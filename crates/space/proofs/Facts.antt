@@ -1,15 +1,15 @@
 -- What a space that passes its check has, for proofs.
-use Prim.Native.Nat.{ℕ, zero, suc, ◌+◌, ◌-◌, ◌^◌, ◌≤◌, ◌<◌}
-use mathlib.Core.Path.{◌≡◌, refl, sym, ◌∙◌, subst}
+use Prim.Native.Nat.{ℕ, zero, suc, ◌+◌, ◌^◌, ◌≤◌, ◌<◌}
+use mathlib.Core.Path.{◌≡◌, refl, sym, subst}
 use mathlib.Core.Bool.{Bool, true, false}
 use mathlib.Core.List.{List}
-use mathlib.Core.Logic.{◌⊎◌, inl, inr, ⊎_elim}
+use mathlib.Core.Logic.{inl, inr, ⊎_elim}
 use native.Mathlib.Omega.{arith}
 use lib.ListN.{get_or}
 use Rattle.paging.proofs.Cases.{same?, clash}
 use Rattle.scan.proofs.Pigeons.{fewer}
 use Rattle.space.specs.Space.{region_at, mapping_at, is_region, is_mapping, region_place, mapping_place}
-use Rattle.space.specs.Passes.{In, Listed, Passes, RootRange}
+use Rattle.space.specs.Passes.{Listed, Passes, RootRange}
 use Rattle.space.specs.declared.Space.{Space}
 use Rattle.space.proofs.Ranges.{inner}
 

@@ -6,8 +6,7 @@
 use Rattle.std.specs.Prelude.{ℕ, ◌+◌, ◌-◌, ◌*◌, ◌/◌, ◌%◌, ◌^◌, ◌≤◌, ◌<◌, ◌≡◌, Bool, true, false, ◌⊎◌, List, length, get_or}
 use Rattle.common.specs.Flags.{has, USER, HUGE_PAGE, known_page, known_region}
 use Rattle.space.specs.Range.{overlap, inside}
-use Rattle.space.specs.Space.{region_at, mapping_at, is_region, is_mapping, region_place, mapping_place, blank_region, blank_mapping, no_region}
-use Rattle.space.specs.declared.Region.{Region}
+use Rattle.space.specs.Space.{region_at, mapping_at, is_region, is_mapping, region_place, blank_region, blank_mapping, no_region}
 use Rattle.space.specs.declared.Mapping.{Mapping}
 use Rattle.space.specs.declared.Space.{Space}
 

@@ -1,14 +1,14 @@
 -- The clauses of the check are the phrases of `Passes`.
 use Prim.Native.Nat.{ℕ, ◌/◌, ◌≤◌, ◌<◌}
-use mathlib.Core.Path.{◌≡◌, refl, sym, ◌∙◌, ap, subst}
+use mathlib.Core.Path.{◌≡◌, refl, sym, ap, subst}
 use mathlib.Core.Bool.{Bool, true, false}
 use mathlib.Core.List.{List}
 use mathlib.Core.Logic.{◌⊎◌, inl, inr}
 use native.Mathlib.Omega.{arith}
-use lib.ListN.{length, get_or}
+use lib.ListN.{length}
 use Rattle.paging.proofs.Cases.{same?, clash}
-use Rattle.space.specs.Space.{region_at, mapping_at, is_region, is_mapping, region_place, blank_region, blank_mapping}
-use Rattle.space.specs.Passes.{In, Listed, Tree, Inside, Apart, Known, Ids, Blank, RootRange, Passes}
+use Rattle.space.specs.Space.{region_at, mapping_at, is_region, region_place}
+use Rattle.space.specs.Passes.{In, Listed, Apart, Blank, RootRange, Passes}
 use Rattle.space.specs.declared.Mapping.{Mapping}
 use Rattle.space.specs.declared.Space.{Space}
 use Rattle.space_slots.specs.Slots.{Places, MappingSlots}

@@ -1,5 +1,5 @@
 -- One page's flags, as the check gathers what is wrong of them: known, and with these others beside READ, WRITE and EXECUTE.
-use Prim.Native.Nat.{ℕ, ◌+◌, ◌*◌, ◌/◌, ◌%◌}
+use Prim.Native.Nat.{ℕ}
 use mathlib.Core.Path.{◌≡◌, sym, ◌∙◌}
 use mathlib.Core.Bool.{true}
 use native.Mathlib.Omega.{arith}

@@ -1,5 +1,5 @@
 -- The definitions of the four calls, by what the walk found.
-use Prim.Native.Nat.{ℕ, ◌+◌, ◌-◌, ◌%◌}
+use Prim.Native.Nat.{ℕ, ◌+◌, ◌%◌}
 use mathlib.Core.Path.{◌≡◌}
 use mathlib.Core.Bool.{true, false}
 use mathlib.Core.List.{List}

@@ -1,5 +1,5 @@
 -- What the four calls mean for every address.
-use Prim.Native.Nat.{ℕ, zero, suc, ◌+◌, ◌-◌, ◌/◌, ◌%◌, ◌^◌, ◌≤◌, ◌<◌}
+use Prim.Native.Nat.{ℕ, ◌+◌, ◌-◌, ◌/◌, ◌%◌, ◌^◌, ◌≤◌, ◌<◌}
 use mathlib.Core.Path.{◌≡◌, refl, sym, ap, ◌∙◌, subst}
 use mathlib.Core.Bool.{Bool, true, false}
 use mathlib.Core.Logic.{inl, inr, ⊎_elim}
@@ -7,7 +7,7 @@ use mathlib.Core.List.{List}
 use native.Mathlib.Omega.{arith}
 use lib.ListN.{length}
 use Rattle.paging.specs.Level.{span, index}
-use Rattle.paging.specs.Format.{Kind, by_kind, blank, page}
+use Rattle.paging.specs.Format.{Kind, by_kind, blank}
 use Rattle.paging.specs.Table.{view, Translation, to, nowhere, translated, translates}
 use Rattle.paging.proofs.Cases.{below?}
 use Rattle.paging.proofs.Walks.{nothing_bar, leaf_bar}
@@ -21,7 +21,7 @@ use Rattle.pool.proofs.Memory.{mem_at}
 use Rattle.form.specs.Form.{Good}
 use Rattle.refusal.specs.declared.Refusal.{Refusal}
 use Rattle.refusal.specs.declared.Refusal.TheVariants.{InvalidArgs, NotMapped, AlreadyMapped, NoFrames}
-use Rattle.walk.specs.Walk.{size_at, found}
+use Rattle.walk.specs.Walk.{found}
 use Rattle.walk.specs.declared.Walk.{Walk}
 use Rattle.walk.specs.declared.Walk.TheVariants.{Leaf, Open}
 use Rattle.walk.specs.declared.LeafEntry.{LeafEntry}

@@ -1,7 +1,7 @@
 -- Tables put under an unused entry, and the page in the last: what a map does.
 use Prim.Native.Nat.{ℕ, zero, suc, ◌+◌, ◌-◌, ◌*◌, ◌/◌, ◌^◌, ◌≤◌, ◌<◌}
 use mathlib.Core.Path.{◌≡◌, refl, sym, ap, ◌∙◌, subst}
-use mathlib.Core.Logic.{◌⊎◌, inl, inr, ⊎_elim}
+use mathlib.Core.Logic.{⊎_elim}
 use mathlib.Core.List.{List}
 use native.Mathlib.Omega.{arith}
 use lib.Dec.{lit<}
@@ -9,7 +9,7 @@ use lib.ListN.{length, length-set}
 use Rattle.paging.specs.Level.{span, index, Canonical}
 use Rattle.paging.specs.Format.{table, Entry, blank, pointer}
 use Rattle.paging.specs.Table.{hit, walk, view, shows, nowhere, translated, translates}
-use Rattle.paging.proofs.Cases.{same?, below?}
+use Rattle.paging.proofs.Cases.{same?}
 use Rattle.paging.proofs.Levels.{index_lt}
 use Rattle.paging.proofs.Walks.{hit_level, hit_frame, NoTable, nothing_bar}
 use Rattle.paging.proofs.Changes.{End, end, outside, inside, grown_walk, grown, formed_grow}

@@ -6,7 +6,6 @@ use native.Mathlib.Omega.{arith}
 use native.Mathlib.Nat.{div-add-mod', mul-mod_left}
 use lib.Dec.{lit<}
 use borrow.Author.Tests.{eqb-true, ltb-false}
-use Rattle.paging.specs.Level.{span}
 use Rattle.paging.specs.Format.{leaf, LeafReads, Entry, page}
 use Rattle.paging.proofs.Cases.{no_truth}
 use Rattle.paging.proofs.Levels.{page_of}

@@ -11,24 +11,17 @@ use Rattle.paging.specs.Table.{view, to, translated, translates}
 use Rattle.paging.proofs.Cases.{same?, below?}
 use Rattle.paging.proofs.Levels.{span_pos, page_of}
 use Rattle.common.specs.Page.{level_of, size_of}
-use Rattle.common.specs.declared.vm.PageSize.{PageSize}
 use Rattle.x86_64.specs.Entry.{granted, x86}
-use Rattle.pool.specs.Pool.{word}
 use Rattle.form.specs.Form.{Good}
 use Rattle.refusal.specs.declared.Refusal.{Refusal}
 use Rattle.refusal.specs.declared.Refusal.TheVariants.{AlreadyMapped, NoFrames}
-use Rattle.walk.specs.Walk.{size_at, found}
-use Rattle.walk.specs.declared.Walk.{Walk}
-use Rattle.walk.specs.declared.Walk.TheVariants.{Leaf, Open}
-use Rattle.walk.proofs.Found.{unused, open_in}
+use Rattle.walk.specs.Walk.{size_at}
 use Rattle.table_map.specs.Map.{leaf_for, mapped, Mapping}
 use Rattle.table_map.specs.declared.MapResult.{MapResult}
 use Rattle.table_map.specs.declared.MapResult.TheVariants.{Mapped, Refused}
-use Rattle.table_map.proofs.Fills.{table_there, short, done}
 use Rattle.table_laws.specs.Effects.{translates_in, Adds}
 use Rattle.walk.proofs.Sizes.{size_level, size_bytes}
 use Rattle.table_laws.proofs.Effects.{effects}
-use Rattle.table_laws.proofs.Frames.{frames_taken}
 use Rattle.table_laws.proofs.Leaves.{map_reads}
 use Rattle.table_map_cont.specs.MapCont.{Range, top_level, page_level, pages, or_nothing, map_cont}
 use Rattle.table_map_cont.specs.Count.{begins, count_page, counted}

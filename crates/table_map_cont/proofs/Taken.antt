@@ -1,9 +1,9 @@
 -- Each page that is mapped takes an entry that was unused: no more can be mapped than the pool has words, so that no more are tried than one above that,
 -- however long the range is.
-use Prim.Native.Nat.{ℕ, zero, suc, ◌+◌, ◌-◌, ◌*◌, ◌/◌, ◌%◌, ◌^◌, ◌≤◌, ◌<◌}
+use Prim.Native.Nat.{ℕ, zero, suc, ◌+◌, ◌-◌, ◌*◌, ◌/◌, ◌%◌, ◌≤◌, ◌<◌}
 use mathlib.Core.Path.{◌≡◌, refl, sym, ap, ◌∙◌, subst}
 use mathlib.Core.Bool.{Bool, true, false}
-use mathlib.Core.Logic.{◌⊎◌, inl, inr, ⊎_elim}
+use mathlib.Core.Logic.{⊎_elim}
 use mathlib.Core.List.{List}
 use native.Mathlib.Omega.{arith}
 use native.Mathlib.Nat.{div-add-mod'}
@@ -14,12 +14,11 @@ use Rattle.paging.specs.Choice.{pick}
 use Rattle.paging.specs.Level.{span}
 use Rattle.paging.specs.Cut.{sum}
 use Rattle.paging.proofs.Cases.{same?, below?}
-use Rattle.common.specs.Page.{level_of, size_of}
+use Rattle.common.specs.Page.{level_of}
 use Rattle.common.specs.declared.vm.PageSize.{PageSize}
 use Rattle.x86_64.specs.Entry.{table_word}
 use Rattle.pool.specs.Pool.{word}
 use Rattle.form.specs.Form.{Good}
-use Rattle.refusal.specs.declared.Refusal.{Refusal}
 use Rattle.walk.specs.Walk.{size_at, found}
 use Rattle.walk.specs.declared.Walk.{Walk}
 use Rattle.walk.specs.declared.Walk.TheVariants.{Leaf, Open}

@@ -1,5 +1,5 @@
 -- The splits at an address of a pool are those of the format (paging/specs/Steps).
-use Prim.Native.Nat.{ℕ, zero, suc, ◌+◌, ◌-◌, ◌*◌, ◌/◌, ◌%◌, ◌≤◌, ◌<◌}
+use Prim.Native.Nat.{ℕ, zero, suc, ◌+◌, ◌/◌, ◌%◌, ◌≤◌, ◌<◌}
 use mathlib.Core.Path.{◌≡◌, refl, sym, ap, ◌∙◌, subst}
 use mathlib.Core.Bool.{Bool, true, false}
 use mathlib.Core.Logic.{◌⊎◌}
@@ -8,7 +8,7 @@ use native.Mathlib.Omega.{arith}
 use lib.ListN.{length}
 use borrow.Author.Tests.{eqb-true}
 use Rattle.paging.specs.Level.{span, Canonical}
-use Rattle.paging.specs.Need.{splits, over}
+use Rattle.paging.specs.Need.{splits}
 use Rattle.paging.specs.Steps as steps
 use Rattle.paging.specs.Steps.{SplitAt}
 use Rattle.common.specs.Page.{level_of, size_of, aligned}
@@ -23,7 +23,7 @@ use Rattle.walk.specs.declared.LeafEntry.{LeafEntry}
 use Rattle.table_split.specs.Split.{Tables, split_leaf, leaf_over, split_at}
 use Rattle.table_split.proofs.Once as once
 use Rattle.table_split.proofs.Once.{leaf_over_lem, level_is, wants}
-use Rattle.table_split.proofs.Unfolds.{at_end, at_hole, at_begin, at_more}
+use Rattle.table_split.proofs.Unfolds.{at_hole, at_begin, at_more}
 
 -- what a pool and the frames in use become by the splits at v
 pub record Downs (p : List ℕ) (base used v : ℕ) (t : Tables) : Type 0 where

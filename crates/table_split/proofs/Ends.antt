@@ -1,13 +1,13 @@
 -- Both ends of a range split: there is room, and what is taken is what was counted.
-use Prim.Native.Nat.{ℕ, ◌+◌, ◌-◌, ◌*◌, ◌/◌, ◌%◌, ◌^◌, ◌≤◌, ◌<◌}
-use mathlib.Core.Path.{◌≡◌, refl, sym, ap, ◌∙◌}
+use Prim.Native.Nat.{ℕ, ◌+◌, ◌-◌, ◌/◌, ◌%◌, ◌≤◌, ◌<◌}
+use mathlib.Core.Path.{◌≡◌, sym, ap, ◌∙◌}
 use mathlib.Core.Logic.{◌⊎◌, inl, ⊎_elim}
 use mathlib.Core.List.{List}
 use native.Mathlib.Omega.{arith}
 use lib.Dec.{lit<}
 use lib.ListN.{length}
 use Rattle.paging.specs.Level.{span, Canonical, Within}
-use Rattle.paging.specs.Need.{splits, left, over}
+use Rattle.paging.specs.Need.{splits, left}
 use Rattle.paging.proofs.Counts.{splits_aligned, left_most, aligned_under}
 use Rattle.paging.proofs.Sums.{over_most, begins, ends}
 use Rattle.paging.proofs.Downs.{Down, down}

@@ -1,13 +1,13 @@
 -- One split in a pool is a split of the format: what stands in paging/specs/Split holds of it.
 use Prim.Native.Nat.{ℕ, zero, suc, ◌+◌, ◌-◌, ◌*◌, ◌/◌, ◌%◌, ◌^◌, ◌≤◌, ◌<◌}
 use mathlib.Core.Path.{◌≡◌, refl, sym, ap, ◌∙◌, subst}
-use mathlib.Core.Bool.{Bool, true, false}
+use mathlib.Core.Bool.{false}
 use mathlib.Core.Logic.{◌⊎◌, inl, inr, ⊎_elim}
 use mathlib.Core.List.{List}
 use native.Mathlib.Omega.{arith}
-use lib.Dec.{eqb, lit<}
-use lib.ListN.{length, get_or, length-set}
-use borrow.Author.Tests.{eqb-true, eqb-false, eq-eqb}
+use lib.Dec.{lit<}
+use lib.ListN.{length, length-set}
+use borrow.Author.Tests.{eqb-false}
 use Rattle.paging.specs.Level.{span, index, Canonical}
 use Rattle.paging.specs.Format.{Kind, nothing, leaf, by_kind, Entry}
 use Rattle.paging.specs.Format as format
@@ -23,9 +23,9 @@ use Rattle.common.specs.Page.{level_of, size_of, aligned}
 use Rattle.common.specs.declared.vm.PageSize.{PageSize}
 use Rattle.x86_64.specs.Entry.{table_word, x86}
 use Rattle.x86_64.proofs.Format.{lawful}
-use Rattle.pool.specs.Pool.{word, put_word, put_frame, listed, mem_of, Taken}
+use Rattle.pool.specs.Pool.{word, put_frame, listed, mem_of, Taken}
 use Rattle.pool.proofs.Memory.{taken_was, mem_at, put_same, put_other, frame_put_length, frame_put_before, frame_put_in, listed_length, listed_at}
-use Rattle.form.specs.Form.{WellFormed, Sized, Good}
+use Rattle.form.specs.Form.{WellFormed, Good}
 use Rattle.walk.specs.Walk.{size_at, found}
 use Rattle.walk.specs.declared.Walk.{Walk}
 use Rattle.walk.specs.declared.Walk.TheVariants.{Leaf, Open}

@@ -1,5 +1,5 @@
 -- The pieces that the code writes are those of the format.
-use Prim.Native.Nat.{ℕ, zero, suc, ◌+◌, ◌-◌, ◌*◌, ◌/◌, ◌%◌, ◌^◌, ◌<◌, ◌≤◌}
+use Prim.Native.Nat.{ℕ, zero, suc, ◌+◌, ◌-◌, ◌*◌, ◌%◌, ◌^◌, ◌<◌, ◌≤◌}
 use mathlib.Core.Path.{◌≡◌, ap, ◌∙◌}
 use native.Mathlib.Omega.{arith}
 use native.Mathlib.Nat.{mul-le-mul_right}
@@ -7,7 +7,6 @@ use lib.Dec.{ltb}
 use Rattle.paging.specs.Level.{span}
 use Rattle.paging.specs.Format as format
 use Rattle.paging.proofs.Formats.{IsLeaf}
-use Rattle.common.specs.Page.{size_of}
 use Rattle.x86_64.specs.Entry.{addr_of, flags_of, leaf_by, x86}
 use Rattle.x86_64.proofs.Format.{lawful}
 use Rattle.walk.specs.Walk.{size_at}

@@ -1,5 +1,5 @@
 -- The leaves over the ends of a range give way to tables of their pieces: what `split_ends` does, word by word. What it means stands in paging/specs/Split and Steps.
-use Rattle.std.specs.Prelude.{ℕ, zero, suc, ◌+◌, ◌-◌, ◌*◌, ◌/◌, Bool, List}
+use Rattle.std.specs.Prelude.{ℕ, zero, suc, ◌+◌, ◌-◌, ◌*◌, List}
 use Rattle.paging.specs.Choice.{pick}
 use Rattle.paging.specs.Need.{need}
 use Rattle.common.specs.Page.{level_of, size_of, aligned}

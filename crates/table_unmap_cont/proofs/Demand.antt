@@ -1,5 +1,5 @@
 -- Demand 3 of the README, from the cut of the format (paging/specs/Cut) and the steps that the code takes.
-use Prim.Native.Nat.{ℕ, zero, suc, ◌+◌, ◌-◌, ◌*◌, ◌/◌, ◌%◌, ◌^◌, ◌<◌, ◌≤◌}
+use Prim.Native.Nat.{ℕ, suc, ◌+◌, ◌-◌, ◌*◌, ◌/◌, ◌%◌, ◌<◌, ◌≤◌}
 use mathlib.Core.Path.{◌≡◌, refl, sym, ap, ◌∙◌, subst}
 use mathlib.Core.Bool.{Bool, true, false}
 use mathlib.Core.Logic.{◌⊎◌, inl, inr, ⊎_elim}
@@ -7,14 +7,14 @@ use mathlib.Core.List.{List}
 use native.Mathlib.Omega.{arith}
 use lib.Dec.{eqb, lit<}
 use lib.ListN.{length}
-use borrow.Author.Tests.{eq-eqb, ne_eqb, lt-ltb, le-ltb}
+use borrow.Author.Tests.{eq-eqb, ne_eqb}
 use Rattle.paging.specs.Choice.{pick}
 use Rattle.paging.specs.Level.{span, Canonical, Within}
 use Rattle.paging.specs.Format.{Kind, nothing, leaf, table, by_kind}
-use Rattle.paging.specs.Table.{View, view, shows, Translation, to, nowhere, translated, translates}
+use Rattle.paging.specs.Table.{View, view, Translation, to, nowhere, translated, translates}
 use Rattle.paging.specs.Need.{need, over}
 use Rattle.paging.specs.Steps.{Ranged}
-use Rattle.paging.specs.Cut.{partly, sum, required, frames, Cutting, Cuts}
+use Rattle.paging.specs.Cut.{partly, sum, required, Cutting, Cuts}
 use Rattle.paging.proofs.Cases.{same?, below?}
 use Rattle.paging.proofs.Counts.{sum_ext, sum_none}
 use Rattle.paging.proofs.Cuts.{cuts}
@@ -24,12 +24,12 @@ use Rattle.common.specs.declared.defs.MMUFlags.{MMUFlags}
 use Rattle.common.specs.declared.vm.PageSize.{PageSize}
 use Rattle.x86_64.specs.Entry.{addr_of, flags_of, x86}
 use Rattle.x86_64.proofs.Format.{lawful}
-use Rattle.intel.specs.Intel.{Rights, Answer, fault, maps, intel}
+use Rattle.intel.specs.Intel.{Rights, intel}
 use Rattle.intel.specs.Agrees.{SameRights}
 use Rattle.pool.specs.Pool.{word, mem_of, Taken}
 use Rattle.form.specs.Form.{Good}
 use Rattle.refusal.specs.declared.Refusal.{Refusal}
-use Rattle.refusal.specs.declared.Refusal.TheVariants.{NotMapped, NoFrames}
+use Rattle.refusal.specs.declared.Refusal.TheVariants.{NotMapped}
 use Rattle.walk.specs.Walk.{size_at, found}
 use Rattle.walk.specs.declared.Walk.{Walk}
 use Rattle.walk.specs.declared.Walk.TheVariants.{Leaf, Open}
@@ -44,8 +44,8 @@ use Rattle.table_split.specs.Split.{leaf_over, Tables}
 use Rattle.walk.proofs.Sizes.{size_bytes}
 use Rattle.table_split.proofs.Once.{placed_view, leaf_over_lem}
 use Rattle.table_split.specs.Split.{needed, split_ends}
-use Rattle.table_unmap_cont.specs.UnmapCont.{cut_from, ContUnmapping, unmap_cont}
-use Rattle.table_unmap_cont.specs.Demand.{frames_for, free, answered, Byte, byte, none, byte_of, CutOut, Demand, one, DemandHolds}
+use Rattle.table_unmap_cont.specs.UnmapCont.{cut_from, ContUnmapping}
+use Rattle.table_unmap_cont.specs.Demand.{frames_for, answered, Byte, byte, none, byte_of, CutOut, Demand, one, DemandHolds}
 use Rattle.table_unmap_cont.specs.declared.UnmapContResult.TheVariants.{Unmapped}
 use Rattle.table_unmap_cont.proofs.Calls.{cont_empty, cont_short, cont_done}
 use Rattle.table_unmap_cont.proofs.Clears.{Cleared, clears, cleared_good}

@@ -1,8 +1,8 @@
 -- A table that needs four frames: two leaves of 1 GiB side by side, as in row B5 of document 01.
-use Prim.Native.Nat.{ℕ, zero, suc, ◌+◌, ◌-◌, ◌*◌, ◌/◌, ◌%◌, ◌<◌, ◌≤◌}
-use mathlib.Core.Path.{◌≡◌, refl, sym, ap, ◌∙◌, subst}
-use mathlib.Core.Bool.{Bool, true, false}
-use mathlib.Core.Logic.{◌⊎◌, inl, inr, ⊎_elim}
+use Prim.Native.Nat.{ℕ, suc, ◌+◌, ◌-◌, ◌*◌, ◌<◌}
+use mathlib.Core.Path.{◌≡◌, refl, sym, ap, ◌∙◌}
+use mathlib.Core.Bool.{true}
+use mathlib.Core.Logic.{inl, ⊎_elim}
 use mathlib.Core.List.{List}
 use native.Mathlib.Omega.{arith}
 use lib.Dec.{eqb, lit<}
@@ -10,18 +10,15 @@ use lib.ListN.{length, get_or, set, replicate, length-set, length-replicate, get
 use lib.Seq.{get_or-set_same, get_or-set_other}
 use borrow.Author.Tests.{eq-eqb, ne_eqb}
 use Rattle.paging.specs.Choice.{pick}
-use Rattle.paging.specs.Level.{Within}
 use Rattle.paging.specs.Format.{nothing, leaf, table, Entry, blank, pointer, page}
-use Rattle.paging.specs.Table.{shows, walk, seen}
+use Rattle.paging.specs.Table.{shows, walk}
 use Rattle.paging.specs.Need.{splits, left, over}
-use Rattle.paging.specs.Cut.{frames}
 use Rattle.paging.proofs.Cases.{same?, below?}
 use Rattle.paging.proofs.Walks.{table_inj, leaf_bar, nothing_bar}
 use Rattle.paging.proofs.Cuts.{cuts}
 use Rattle.x86_64.specs.Entry.{table_word, leaf_by, x86}
 use Rattle.x86_64.proofs.Format.{lawful}
-use Rattle.pool.specs.Pool.{word, put_word, mem_of, Taken}
-use Rattle.pool.proofs.Memory.{put_same}
+use Rattle.pool.specs.Pool.{mem_of, Taken}
 use Rattle.form.specs.Form.{WellFormed, Good}
 use Rattle.table_unmap_cont.specs.Demand.{frames_for, NeedsFour}
 

@@ -6,14 +6,10 @@ use mathlib.Core.List.{List}
 use mathlib.Core.Logic.{◌⊎◌, inl, inr, ⊎_elim}
 use native.Mathlib.Omega.{arith}
 use native.Mathlib.Numerals.{add-one}
-use borrow.Author.Tests.{ne_eqb}
-use lib.Dec.{eqb}
 use lib.ListN.{length, get_or, set, replicate, get_or-replicate, length-set, get_or-eq_default}
 use lib.Seq.{get_or-set_same, get_or-set_other}
-use Rattle.paging.specs.Choice.{pick, Decided}
-use Rattle.paging.proofs.Cases.{same?, below?, decide, decided_true, decided_false, no_truth, clash}
-use Rattle.scan.proofs.Scans.{tell}
-use Rattle.space.specs.Range.{inside}
+use Rattle.paging.specs.Choice.{Decided}
+use Rattle.paging.proofs.Cases.{same?, below?, clash}
 use Rattle.space.specs.Space.{region_at, is_region, region_place}
 use Rattle.space.specs.Passes.{Passes}
 use Rattle.space.specs.declared.Space.{Space}

@@ -6,7 +6,7 @@ use mathlib.Core.List.{List}
 use mathlib.Core.Logic.{⊎_elim}
 use native.Mathlib.Omega.{arith}
 use lib.ListN.{length, length-set}
-use Rattle.paging.proofs.Cases.{same?, clash}
+use Rattle.paging.proofs.Cases.{same?}
 use Rattle.common.specs.Flags.{known_region}
 use Rattle.space.specs.Range.{overlap, inside}
 use Rattle.space.specs.Space.{region_at, mapping_at, is_region, region_place, with_region, no_region, blank_region}

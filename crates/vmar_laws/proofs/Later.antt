@@ -4,8 +4,8 @@ use mathlib.Core.Path.{◌≡◌, refl, sym, ◌∙◌, subst}
 use mathlib.Core.Bool.{true, false}
 use mathlib.Core.Logic.{◌⊎◌, inl, inr, ⊎_elim}
 use native.Mathlib.Omega.{arith}
-use borrow.Author.Tests.{eqb-true, eq-eqb, ne_eqb}
-use Rattle.paging.proofs.Cases.{same?, no_truth}
+use borrow.Author.Tests.{ne_eqb}
+use Rattle.paging.proofs.Cases.{same?}
 use Rattle.scan.proofs.Scans.{tell}
 use Rattle.space.specs.Space.{region_at, is_region, blank_region, with_region, with_mapping}
 use Rattle.space.specs.declared.Region.{Region}

@@ -1,12 +1,11 @@
 -- The depth left never matters on a space that passes its check: a child stands after its parent in the list, so that a descent is no longer than the list.
 use Prim.Native.Nat.{ℕ, zero, suc, ◌+◌, ◌≤◌, ◌<◌}
-use mathlib.Core.Path.{◌≡◌, refl, sym, ◌∙◌, ap, subst}
-use mathlib.Core.Bool.{true}
+use mathlib.Core.Path.{◌≡◌, refl, sym, ◌∙◌, subst}
 use mathlib.Core.List.{List}
-use mathlib.Core.Logic.{◌⊎◌, inl, inr, ⊎_elim}
+use mathlib.Core.Logic.{⊎_elim}
 use native.Mathlib.Omega.{arith}
 use Rattle.paging.proofs.Cases.{same?, below?}
-use Rattle.space.specs.Space.{region_at, region_place}
+use Rattle.space.specs.Space.{region_place}
 use Rattle.space.specs.Passes.{Passes}
 use Rattle.space.specs.declared.Space.{Space}
 use Rattle.vmar_lookup.specs.Lookup.{step_at, follow, look}

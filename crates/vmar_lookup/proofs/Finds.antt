@@ -3,20 +3,19 @@ use Prim.Native.Nat.{ℕ, zero, suc, ◌+◌, ◌≤◌, ◌<◌}
 use mathlib.Core.Path.{◌≡◌, refl, sym, ◌∙◌, ap, subst}
 use mathlib.Core.Bool.{Bool, true, false}
 use mathlib.Core.List.{List}
-use mathlib.Core.Logic.{◌⊎◌, inl, inr, ⊎_elim}
+use mathlib.Core.Logic.{⊎_elim}
 use native.Mathlib.Omega.{arith}
-use lib.Dec.{ltb}
 use borrow.Author.Tests.{lt-ltb, le-ltb}
 use Rattle.paging.proofs.Cases.{same?, below?, clash}
 use Rattle.scan.specs.Scan.{first}
-use Rattle.scan.proofs.Scans.{first_passes, first_most, before_first}
+use Rattle.scan.proofs.Scans.{first_passes, before_first}
 use Rattle.space.specs.Range.{overlap, contains}
-use Rattle.space.specs.Space.{region_at, mapping_at, is_region, is_mapping, region_place, mapping_place}
-use Rattle.space.specs.Passes.{Passes, RootRange}
+use Rattle.space.specs.Space.{region_at, mapping_at, is_region, region_place, mapping_place}
+use Rattle.space.specs.Passes.{Passes}
 use Rattle.space.specs.declared.Space.{Space}
 use Rattle.space.proofs.Ranges.{apart, inner, holds, holds_of}
 use Rattle.space.proofs.Facts.{region_place_lem, mapping_place_lem, child_in}
-use Rattle.vmar_lookup.specs.Lookup.{owned, holds_child, child_holding, holds_mapping, mapping_holding, step_at, follow, look}
+use Rattle.vmar_lookup.specs.Lookup.{owned, holds_child, child_holding, holds_mapping, step_at, follow, look}
 use Rattle.vmar_lookup.specs.Laws.{Holds}
 use Rattle.vmar_lookup.specs.declared.Found.TheVariants as found
 use Rattle.vmar_lookup.specs.declared.Next.TheVariants as next

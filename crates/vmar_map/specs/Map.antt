@@ -1,6 +1,6 @@
 -- The half of `map_ext` that never overwrites, on a space that passes its check: its refusals in document 01's order ("11, unknown flag bits (1), .. then the Rust's
 -- own order, then 10"), then the new mapping and its page flags.
-use Rattle.std.specs.Prelude.{ℕ, zero, suc, ◌+◌, ◌*◌, ◌/◌, ◌^◌, Bool, true, List, leb, ltb, eqb, set}
+use Rattle.std.specs.Prelude.{ℕ, zero, suc, ◌+◌, ◌*◌, ◌/◌, Bool, true, List, leb, ltb, eqb, set}
 use Rattle.paging.specs.Choice.{pick}
 use Rattle.common.specs.Flags.{known_page, grants, rights}
 use Rattle.vm.specs.Align.{multiple}

@@ -1,6 +1,6 @@
 -- The definitions by what their tests show.
 use Prim.Native.Nat.{ℕ, ◌+◌}
-use mathlib.Core.Path.{◌≡◌, refl, sym, ◌∙◌, ap}
+use mathlib.Core.Path.{◌≡◌}
 use mathlib.Core.Bool.{true, false, not}
 use lib.Dec.{leb, ltb, eqb}
 use Rattle.scan.specs.Scan.{first, some}
@@ -8,7 +8,7 @@ use Rattle.vm.specs.Align.{multiple}
 use Rattle.refusal.specs.declared.Refusal.TheVariants.{InvalidArgs}
 use Rattle.space.specs.Space.{region_at, mapping_at, region_place, mapping_place}
 use Rattle.space.specs.declared.Space.{Space}
-use Rattle.vmar_offset.specs.Offset.{meets_child, meets_mapping, test_map, taken, takes_child, takes_mapping, child_end, mapping_end, find_free_area, found, by_offset, determine_offset}
+use Rattle.vmar_offset.specs.Offset.{meets_child, meets_mapping, test_map, takes_child, takes_mapping, child_end, mapping_end, find_free_area, found, determine_offset}
 use Rattle.vmar_offset.specs.declared.Offset.{Offset}
 use Rattle.vmar_offset.specs.declared.Offset.TheVariants as offset
 use Rattle.vmar_offset.specs.declared.OffsetResult.TheVariants as result

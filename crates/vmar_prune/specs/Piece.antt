@@ -6,7 +6,7 @@
 --     middle   [---xxxx---]    both: the mapping keeps those before b, and a new one takes those from e on
 --
 -- A mapping outside the range keeps all its bytes on one side. Page flags move by pages and VMO offsets along with them; document 01, 'Traps': "Trimming page flags by bytes".
-use Rattle.std.specs.Prelude.{ℕ, zero, suc, ◌+◌, ◌-◌, ◌*◌, ◌/◌, Bool, true, false, not, List, eqb, ltb, get_or, set}
+use Rattle.std.specs.Prelude.{ℕ, zero, suc, ◌+◌, ◌-◌, ◌*◌, ◌/◌, Bool, false, not, List, eqb, ltb, get_or, set}
 use Rattle.paging.specs.Choice.{pick}
 use Rattle.space.specs.Space.{blank_mapping}
 use Rattle.space.specs.declared.Mapping.{Mapping}

@@ -1,10 +1,10 @@
 -- A space after [b, e) was cut out of region r: the doomed regions are gone and with them their mappings; the mappings of r keep what lies outside, empty ones are
 -- dropped; lists keep their order. The second part of a middle cut takes the lowest slot that was free before the call and the end of the list; "any accepted unmap drops all
 -- empty mappings of its region"; "Slots of destroyed regions and dropped mappings are used again"; "free slots blank".
-use Rattle.std.specs.Prelude.{ℕ, zero, suc, ◌+◌, ◌-◌, ◌*◌, ◌/◌, Bool, true, false, not, List, eqb, ltb, get_or, set, replicate}
+use Rattle.std.specs.Prelude.{ℕ, zero, suc, ◌+◌, Bool, false, not, List, eqb, ltb, get_or, set, replicate}
 use Rattle.paging.specs.Choice.{pick}
 use Rattle.scan.specs.Scan.{first}
-use Rattle.space.specs.Space.{blank_region, blank_mapping, region_at, mapping_at, with_mapping}
+use Rattle.space.specs.Space.{blank_region, blank_mapping, mapping_at, with_mapping}
 use Rattle.space.specs.declared.Region.{Region}
 use Rattle.space.specs.declared.Mapping.{Mapping}
 use Rattle.space.specs.declared.Space.{Space}

@@ -11,7 +11,6 @@ use Rattle.paging.specs.Level.{index}
 use Rattle.paging.specs.Format.{leaf, Entry}
 use Rattle.paging.specs.Table.{Hit}
 use Rattle.paging.proofs.Levels.{index_lt}
-use Rattle.paging.proofs.Formats.{is}
 use Rattle.paging.proofs.Changes.{End, end}
 use Rattle.x86_64.specs.Entry.{frame_of, is_unused, is_leaf, x86}
 use Rattle.x86_64.proofs.Format.{lawful, leaf_entry, table_entry}

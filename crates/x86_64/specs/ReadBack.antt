@@ -1,5 +1,5 @@
 -- What is proved of entry words: "reading back" of document 01, 'Entries and translation', for every set of flags, address and size.
-use Rattle.std.specs.Prelude.{ℕ, ◌+◌, ◌-◌, ◌*◌, ◌%◌, ◌^◌, ◌<◌, ◌≡◌, true, false, eqb}
+use Rattle.std.specs.Prelude.{ℕ, ◌+◌, ◌*◌, ◌%◌, ◌^◌, ◌<◌, ◌≡◌, true, false, eqb}
 use Rattle.paging.specs.Format.{Entry, Lawful, Formats}
 use Rattle.common.specs.Flags.{READ, HUGE_PAGE, has, known_page}
 use Rattle.common.specs.Page.{level_of, size_of, is_huge}

@@ -1,10 +1,9 @@
 use borrow.Author.Count.{below_none, below_more}
 use borrow.Author.Tests.{eqb-true}
 use native.Mathlib.Omega.{arith}
-use Prim.Native.Nat.{ℕ, ◌≤◌, ◌-◌}
-use mathlib.Core.Path.{◌≡◌}
-use lib.ListN.{length, get_or}
-use Rattle.form.specs.Sure.{Plain, AllPlain}
+use Prim.Native.Nat.{ℕ}
+use lib.ListN.{get_or}
+use Rattle.form.specs.Sure.{Plain}
 use Rattle.form.proofs.Flawless.{or_zero}
 use Rattle.form.proofs.all_plain.Goals as goal
 

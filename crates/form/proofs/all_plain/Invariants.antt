@@ -1,12 +1,8 @@
 -- `all_plain`: while no flaw was found, the words that were passed have none.
-use borrow.Author.Count.{below_none, below_more}
-use borrow.Author.Tests.{eqb-true}
-use native.Mathlib.Omega.{arith}
-use Prim.Native.Nat.{ℕ, ◌≤◌, ◌-◌}
+use Prim.Native.Nat.{◌≤◌, ◌-◌}
 use mathlib.Core.Path.{◌≡◌}
-use lib.ListN.{length, get_or}
-use Rattle.form.specs.Sure.{Plain, AllPlain}
-use Rattle.form.proofs.Flawless.{or_zero}
+use lib.ListN.{length}
+use Rattle.form.specs.Sure.{AllPlain}
 use Rattle.form.proofs.all_plain.Given as goal
 
 abbrev pub invariant-loop-k : goal.invariant-loop-k

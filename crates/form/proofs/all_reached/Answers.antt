@@ -1,7 +1,7 @@
 use borrow.Author.Count.{below_none, below_more}
 use native.Mathlib.Omega.{arith}
-use Prim.Native.Nat.{ℕ, ◌≤◌, ◌<◌, ◌-◌}
-use lib.ListN.{length, get_or}
+use Prim.Native.Nat.{ℕ, ◌<◌}
+use lib.ListN.{get_or}
 use Rattle.form.proofs.all_reached.Goals as goal
 
 pub loop-frame-init : goal.loop-frame-init

@@ -1,6 +1,4 @@
 -- `all_reached`: every frame that was passed has a rank.
-use borrow.Author.Count.{below_none, below_more}
-use native.Mathlib.Omega.{arith}
 use Prim.Native.Nat.{ℕ, ◌≤◌, ◌<◌, ◌-◌}
 use lib.ListN.{length, get_or}
 use Rattle.form.proofs.all_reached.Given as goal

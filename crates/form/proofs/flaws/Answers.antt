@@ -1,7 +1,6 @@
 -- `flaws`: what has none is plain.
 use native.Mathlib.Omega.{arith}
 use Rattle.form.proofs.Flawless.{agree_le, flawless}
-use borrow.Author.Rules.{rules}
 use Rattle.form.proofs.flaws.Goals as goal
 
 pub overflow_mul-leaf : goal.overflow_mul-leaf

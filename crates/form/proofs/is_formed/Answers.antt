@@ -3,7 +3,6 @@ use Prim.Native.Nat.{◌/◌}
 use Rattle.form.proofs.Answers.{passed, refused}
 use Rattle.form.proofs.Steps.{begin}
 use Rattle.form.proofs.Ends.{answered}
-use borrow.Author.Rules.{rules}
 use Rattle.form.proofs.is_formed.Goals as goal
 
 pub sweep_all-requires : goal.sweep_all-requires

@@ -3,7 +3,6 @@ use Prim.Native.Nat.{◌/◌}
 use native.Mathlib.Omega.{arith}
 use Rattle.form.specs.Form.{Sized}
 use Rattle.form.proofs.Answers.{by_le}
-use borrow.Author.Rules.{rules}
 use Rattle.form.proofs.is_sized.Goals as goal
 
 pub returns : goal.returns

@@ -1,8 +1,6 @@
 use mathlib.Core.Path.{◌≡◌, sym, ◌∙◌, subst}
 use native.Mathlib.Omega.{arith}
 use Prim.Native.Nat.{ℕ, ◌+◌, ◌-◌, ◌*◌, ◌/◌}
-use lib.ListN.{length}
-use Rattle.form.specs.Form.{Sized}
 use Rattle.form.specs.Sweep.{Sweep, goes, stops}
 use Rattle.form.proofs.Answers.{passed, refused}
 use Rattle.form.proofs.Steps.{next_rank}

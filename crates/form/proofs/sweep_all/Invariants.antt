@@ -1,12 +1,9 @@
 -- `sweep_all`: the ranks above the present one have been read.
-use mathlib.Core.Path.{◌≡◌, sym, ◌∙◌, subst}
-use native.Mathlib.Omega.{arith}
-use Prim.Native.Nat.{ℕ, ◌+◌, ◌-◌, ◌*◌, ◌/◌}
+use mathlib.Core.Path.{◌≡◌}
+use Prim.Native.Nat.{◌/◌}
 use lib.ListN.{length}
 use Rattle.form.specs.Form.{Sized}
-use Rattle.form.specs.Sweep.{Sweep, goes, stops}
-use Rattle.form.proofs.Answers.{passed, refused}
-use Rattle.form.proofs.Steps.{next_rank}
+use Rattle.form.specs.Sweep.{Sweep}
 use Rattle.form.proofs.sweep_all.Given as goal
 
 abbrev pub invariant-loop-rank : goal.invariant-loop-rank

@@ -8,7 +8,6 @@ use Rattle.x86_64.specs.Entry.{addr_of, is_leaf, x86}
 use Rattle.form.specs.Sweep.{foreign}
 use Rattle.form.proofs.Answers.{holds, fails}
 use Rattle.form.proofs.Marks.{Table, by_leaf_lem, by_low, by_high, by_again, by_rank}
-use borrow.Author.Rules.{rules}
 use Rattle.form.proofs.sweep_entry.Goals as goal
 
 pub returns-then-not-is_entry : goal.returns-then-not-is_entry

@@ -1,9 +1,7 @@
 use mathlib.Core.Path.{◌≡◌, refl, sym, ◌∙◌, subst}
 use native.Mathlib.Omega.{arith}
-use Prim.Native.Nat.{ℕ, ◌≤◌, ◌<◌, ◌+◌, ◌-◌, ◌*◌, ◌/◌}
-use lib.ListN.{length, get_or}
-use Rattle.form.specs.Form.{Sized}
-use Rattle.form.specs.Sure.{Sure}
+use Prim.Native.Nat.{ℕ, ◌+◌, ◌*◌, ◌/◌}
+use lib.ListN.{get_or}
 use Rattle.form.specs.Sweep.{Sweep, Swept, goes, stops}
 use Rattle.form.proofs.Answers.{passed, refused}
 use Rattle.form.proofs.Steps.{skip_frame}
@@ -75,11 +73,11 @@ shape_of-at-then-not-sweep_word c =
 pub returns-then-not-sweep_word : goal.returns-then-not-sweep_word
 returns-then-not-sweep_word c =
     let went : (let a = c.args in Swept a.pool.now (a.base / 4096) a.used c.sweep_word.new.at a.rank (a.frame * 512 + (c.loop-k.k + 1)) c.sweep_word.result) = let a = c.args in
-        let i = c.loop-k.invariant in
-        let r = c.sweep_word in
-        stepped a.pool.now (a.base / 4096) a.used c.loop-k.at a.rank a.frame c.loop-k.k i.7 i.2
-        (omega arith) i.4 i.3 (get_or a.pool.now (a.frame * 512 + c.loop-k.k) 0) r.new.at r.result
-        (omega (arith, i.6.there, i.6.few)) refl r.ensures in
+    let i = c.loop-k.invariant in
+    let r = c.sweep_word in
+    stepped a.pool.now (a.base / 4096) a.used c.loop-k.at a.rank a.frame c.loop-k.k i.7 i.2
+    (omega arith) i.4 i.3 (get_or a.pool.now (a.frame * 512 + c.loop-k.k) 0) r.new.at r.result
+    (omega (arith, i.6.there, i.6.few)) refl r.ensures in
     stops (refused c.if-not-sweep_word.true-raw went)
 
 pub overflow_add-k : goal.overflow_add-k
@@ -91,11 +89,11 @@ loop-k-smaller c = omega arith
 pub loop-k-preserved : goal.loop-k-preserved
 loop-k-preserved c =
     let went : (let a = c.args in Swept a.pool.now (a.base / 4096) a.used c.sweep_word.new.at a.rank (a.frame * 512 + (c.loop-k.k + 1)) c.sweep_word.result) = let a = c.args in
-        let i = c.loop-k.invariant in
-        let r = c.sweep_word in
-        stepped a.pool.now (a.base / 4096) a.used c.loop-k.at a.rank a.frame c.loop-k.k i.7 i.2
-        (omega arith) i.4 i.3 (get_or a.pool.now (a.frame * 512 + c.loop-k.k) 0) r.new.at r.result
-        (omega (arith, i.6.there, i.6.few)) refl r.ensures in
+    let i = c.loop-k.invariant in
+    let r = c.sweep_word in
+    stepped a.pool.now (a.base / 4096) a.used c.loop-k.at a.rank a.frame c.loop-k.k i.7 i.2
+    (omega arith) i.4 i.3 (get_or a.pool.now (a.frame * 512 + c.loop-k.k) 0) r.new.at r.result
+    (omega (arith, i.6.there, i.6.few)) refl r.ensures in
     let a = c.args in
     let i = c.loop-k.invariant in
     let r = c.sweep_word in

@@ -1,15 +1,10 @@
 -- `sweep_frame`: what is known when the turn of the rank has come to word k of the frame, whose rank stays.
-use mathlib.Core.Path.{◌≡◌, refl, sym, ◌∙◌, subst}
-use native.Mathlib.Omega.{arith}
-use Prim.Native.Nat.{ℕ, ◌≤◌, ◌<◌, ◌+◌, ◌-◌, ◌*◌, ◌/◌}
+use mathlib.Core.Path.{◌≡◌}
+use Prim.Native.Nat.{◌≤◌, ◌<◌, ◌+◌, ◌-◌, ◌*◌, ◌/◌}
 use lib.ListN.{length, get_or}
 use Rattle.form.specs.Form.{Sized}
 use Rattle.form.specs.Sure.{Sure}
-use Rattle.form.specs.Sweep.{Sweep, Swept, goes, stops}
-use Rattle.form.proofs.Answers.{passed, refused}
-use Rattle.form.proofs.Steps.{skip_frame}
-use Rattle.form.proofs.Frames.{plain_words, plain_frame}
-use Rattle.form.proofs.Refusals.{rank_stays, stepped}
+use Rattle.form.specs.Sweep.{Sweep}
 use Rattle.form.proofs.sweep_frame.Given as goal
 
 abbrev pub invariant-loop-k : goal.invariant-loop-k

@@ -1,11 +1,9 @@
 -- `sweep_rank`: what is known when the turn of the rank has come to the frame.
-use mathlib.Core.Path.{◌≡◌, sym, ◌∙◌, subst}
-use native.Mathlib.Omega.{arith}
-use Prim.Native.Nat.{ℕ, ◌≤◌, ◌<◌, ◌+◌, ◌-◌, ◌*◌, ◌/◌}
+use mathlib.Core.Path.{◌≡◌}
+use Prim.Native.Nat.{◌≤◌, ◌<◌, ◌-◌, ◌*◌, ◌/◌}
 use lib.ListN.{length}
 use Rattle.form.specs.Form.{Sized}
-use Rattle.form.specs.Sweep.{Sweep, goes, stops}
-use Rattle.form.proofs.Answers.{passed, refused}
+use Rattle.form.specs.Sweep.{Sweep}
 use Rattle.form.proofs.sweep_rank.Given as goal
 
 abbrev pub invariant-loop-frame : goal.invariant-loop-frame

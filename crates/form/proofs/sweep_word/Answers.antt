@@ -1,6 +1,5 @@
 -- `sweep_word`: zero and what is told at once reach nothing.
 use Rattle.form.proofs.Marks.{by_zero, by_plain}
-use borrow.Author.Rules.{rules}
 use Rattle.form.proofs.sweep_word.Goals as goal
 
 pub returns-then-w-eq0 : goal.returns-then-w-eq0

@@ -1,7 +1,6 @@
 -- `index_above`: the mask keeps nine bits.
 use Prim.Native.Nat.{◌/◌, ◌^◌}
 use lib.Bits.{and_mask}
-use borrow.Author.Rules.{rules}
 use Rattle.index.proofs.index_above.Goals as goal
 
 pub returns : goal.returns

@@ -1,5 +1,5 @@
 -- `is_in_rule`: the tests in order.
-use Prim.Native.Nat.{◌-◌, ◌^◌}
+use Prim.Native.Nat.{◌^◌}
 use borrow.Author.Tests.{lt-ltb, le-ltb}
 use Rattle.page_table.proofs.is_in_rule.Goals as goal
 

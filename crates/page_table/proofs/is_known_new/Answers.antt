@@ -1,7 +1,5 @@
 -- `is_known_new`: flags that are kept are known.
-use Prim.Native.Nat.{◌-◌}
 use mathlib.Core.Path.{sym, ap, ◌∙◌}
-use borrow.Author.Rules.{rules}
 use Rattle.page_table.specs.Calls.{known_new}
 use Rattle.page_table.proofs.is_known_new.Goals as goal
 

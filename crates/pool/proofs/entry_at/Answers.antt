@@ -5,7 +5,6 @@ use mathlib.Core.Path.{ap, ◌∙◌}
 use mathlib.Core.List.{List}
 use Prim.Native.Nat.{ℕ}
 use lib.ListN.{length, get_or}
-use borrow.Author.Rules.{rules}
 use Rattle.pool.proofs.entry_at.Goals as goal
 
 pub bounds-table-k : goal.bounds-table-k

@@ -1,6 +1,5 @@
 -- `set_entry`: a word written in the part is written in the pool.
 use Rattle.pool.proofs.Frames.{put_at}
-use borrow.Author.Rules.{rules}
 use Rattle.pool.proofs.set_entry.Goals as goal
 
 pub returns : goal.returns

@@ -3,7 +3,6 @@ use Rattle.pool.proofs.Frames.{width}
 use mathlib.Core.Path.{ap}
 use Prim.Native.Nat.{ℕ, ◌*◌}
 use lib.ListN.{take, drop}
-use borrow.Author.Rules.{rules}
 use Rattle.pool.proofs.table_of.Goals as goal
 
 pub returns : goal.returns

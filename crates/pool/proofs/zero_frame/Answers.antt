@@ -1,9 +1,8 @@
 -- `zero_frame`: a part of zeros is back in the pool.
 use Rattle.pool.proofs.Frames.{put_frame_lem, part_length}
-use mathlib.Core.Path.{◌≡◌, ap, ◌∙◌}
+use mathlib.Core.Path.{ap, ◌∙◌}
 use Prim.Native.Nat.{ℕ}
 use lib.ListN.{replicate}
-use borrow.Author.Rules.{rules}
 use Rattle.pool.proofs.zero_frame.Goals as goal
 
 pub returns : goal.returns

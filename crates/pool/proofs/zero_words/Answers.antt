@@ -2,12 +2,9 @@ use Rattle.pool.proofs.Frames.{filled}
 use lib.ListN.{length-set}
 use Prim.Native.Nat.{◌<◌}
 use native.Mathlib.Omega.{arith}
-use mathlib.Core.Path.{◌≡◌, refl}
-use mathlib.Core.List.{◌++◌}
-use Prim.Native.Nat.{◌≤◌, ◌-◌}
-use lib.ListN.{drop, length, replicate}
+use mathlib.Core.Path.{refl}
+use lib.ListN.{length}
 use borrow.Author.Fill.{fill_none, fill_more}
-use borrow.Author.Rules.{rules}
 use Rattle.pool.proofs.zero_words.Goals as goal
 
 pub loop-j-init : goal.loop-j-init

@@ -1,14 +1,8 @@
 -- `zero_words`: the words before j are zero, the others as they were.
-use Rattle.pool.proofs.Frames.{filled}
-use lib.ListN.{length-set}
-use Prim.Native.Nat.{◌<◌}
-use native.Mathlib.Omega.{arith}
-use mathlib.Core.Path.{◌≡◌, refl}
+use mathlib.Core.Path.{◌≡◌}
 use mathlib.Core.List.{◌++◌}
 use Prim.Native.Nat.{◌≤◌, ◌-◌}
 use lib.ListN.{drop, length, replicate}
-use borrow.Author.Fill.{fill_none, fill_more}
-use borrow.Author.Rules.{rules}
 use Rattle.pool.proofs.zero_words.Given as goal
 
 abbrev pub invariant-loop-j : goal.invariant-loop-j

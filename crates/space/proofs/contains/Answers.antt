@@ -1,12 +1,5 @@
-use borrow.Author.Rules.{rules}
-use mathlib.Core.Path.{◌≡◌, refl, sym, ◌∙◌, ap}
-use mathlib.Core.Bool.{not}
-use native.Mathlib.Omega.{arith}
-use borrow.Author.Tests.{lt-ltb, le-ltb, lt-leb}
-use Rattle.space.specs.Range.{overlap, inside, contains}
-use Rattle.space.proofs.Ranges.{by_difference}
-use Rattle.space.proofs.contains.Reads as reads
-use Rattle.space.proofs.contains.Lts as lts
+use borrow.Author.Tests.{lt-ltb, le-ltb}
+use Rattle.space.specs.Range.{contains}
 use Rattle.space.proofs.contains.Goals as goal
 
 -- src/lib.rt:88:9

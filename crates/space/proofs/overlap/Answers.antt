@@ -1,13 +1,6 @@
-use mathlib.Core.Path.{◌≡◌, refl, sym, ◌∙◌, ap}
+use mathlib.Core.Path.{sym, ◌∙◌, ap}
 use mathlib.Core.Bool.{not}
-use native.Mathlib.Omega.{arith}
-use borrow.Author.Tests.{lt-ltb, le-ltb, lt-leb}
-use Rattle.space.specs.Range.{overlap, inside, contains}
-use Rattle.space.proofs.Ranges.{by_difference}
-use borrow.Author.Rules.{rules}
-use Rattle.space.proofs.overlap.Reads as reads
-use Rattle.space.proofs.overlap.Lts as lts
-use Rattle.space.proofs.sum_le.Reads as sum-le-reads
+use Rattle.space.specs.Range.{overlap}
 use Rattle.space.proofs.overlap.Goals as goal
 
 -- src/lib.rt:68:9

@@ -1,13 +1,8 @@
-use borrow.Author.Rules.{rules}
-use mathlib.Core.Path.{◌≡◌, refl, sym, ◌∙◌, ap}
-use mathlib.Core.Bool.{not}
+use mathlib.Core.Path.{sym}
 use Prim.Native.Nat.{◌+◌, ◌<◌}
 use native.Mathlib.Omega.{arith}
-use borrow.Author.Tests.{lt-ltb, le-ltb, lt-leb}
-use Rattle.space.specs.Range.{overlap, inside, contains}
+use borrow.Author.Tests.{lt-leb}
 use Rattle.space.proofs.Ranges.{by_difference}
-use Rattle.space.proofs.sum_le.Reads as reads
-use Rattle.space.proofs.sum_le.Lts as lts
 use Rattle.space.proofs.sum_le.Goals as goal
 
 -- src/lib.rt:58:9

@@ -1,13 +1,6 @@
-use mathlib.Core.Path.{◌≡◌, refl, sym, ◌∙◌, ap}
-use mathlib.Core.Bool.{not}
-use native.Mathlib.Omega.{arith}
-use borrow.Author.Tests.{lt-ltb, le-ltb, lt-leb}
-use Rattle.space.specs.Range.{overlap, inside, contains}
-use Rattle.space.proofs.Ranges.{by_difference}
-use borrow.Author.Rules.{rules}
-use Rattle.space.proofs.within.Reads as reads
-use Rattle.space.proofs.within.Lts as lts
-use Rattle.space.proofs.sum_le.Reads as sum-le-reads
+use mathlib.Core.Path.{◌∙◌}
+use borrow.Author.Tests.{lt-ltb, le-ltb}
+use Rattle.space.specs.Range.{inside}
 use Rattle.space.proofs.within.Goals as goal
 
 -- src/lib.rt:78:9

@@ -9,11 +9,6 @@ use Rattle.space_slots.specs.Slots.{Places}
 use Rattle.space_pages.specs.Pages.{AllPages}
 use Rattle.space_check.specs.Clauses.{GoodMappings}
 use Rattle.space_check.proofs.Whole.{few}
-use Rattle.space_check.proofs.are_mappings_good.Reads as reads
-use Rattle.space_check.proofs.are_mappings_good.Lts as lts
-use Rattle.space_pages.proofs.are_all_pages.Reads as are-all-pages-reads
-use Rattle.space_slots.proofs.are_mapping_slots.Reads as are-mapping-slots-reads
-use Rattle.space_slots.proofs.is_list.Reads as is-list-reads
 use Rattle.space_check.proofs.are_mappings_good.Goals as goal
 
 pub returns-then-not-is_list : goal.returns-then-not-is_list

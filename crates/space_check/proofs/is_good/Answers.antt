@@ -7,11 +7,6 @@ use Rattle.paging.proofs.Cases.{decided_true, decided_false, decide_by}
 use Rattle.space.specs.Passes.{Apart, Passes}
 use Rattle.space_check.specs.Clauses.{GoodRegions, GoodMappings}
 use Rattle.space_check.proofs.Whole.{whole, regions_of, mappings_of, blank_of, fitting_of}
-use Rattle.space_check.proofs.is_good.Reads as reads
-use Rattle.space_check.proofs.is_good.Lts as lts
-use Rattle.space_check.proofs.are_mappings_good.Reads as are-mappings-good-reads
-use Rattle.space_check.proofs.are_regions_good.Reads as are-regions-good-reads
-use Rattle.space_pairs.proofs.are_parts_apart.Reads as are-parts-apart-reads
 use Rattle.space_check.proofs.is_good.Goals as goal
 
 pub returns-then-not-are_regions_good : goal.returns-then-not-are_regions_good

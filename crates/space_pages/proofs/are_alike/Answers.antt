@@ -1,12 +1,5 @@
-use borrow.Author.Rules.{rules}
-use Prim.Native.Nat.{ℕ, ◌+◌, ◌-◌, ◌≤◌}
-use mathlib.Core.Path.{◌≡◌}
-use mathlib.Core.Bool.{true}
 use native.Mathlib.Omega.{arith}
-use lib.ListN.{get_or}
-use Rattle.common.specs.Flags.{known_page}
-use Rattle.space.specs.Passes.{others}
-use Rattle.scan.proofs.Gather.{Gathered, nothing, more, gathered}
+use Rattle.scan.proofs.Gather.{nothing, more, gathered}
 use Rattle.space_pages.proofs.Alike.{page_to, page_from}
 use Rattle.space_pages.proofs.are_alike.Goals as goal
 

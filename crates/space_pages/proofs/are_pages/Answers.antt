@@ -8,7 +8,6 @@ use Rattle.space.specs.Passes.{Pages}
 use Rattle.space_pages.specs.Pages.{AllZero}
 use Rattle.space_pages.proofs.Alike.{others_are}
 use Rattle.space_pages.proofs.Slot.{pages_to, pages_from}
-use borrow.Author.Rules.{rules}
 use Rattle.space_pages.proofs.are_pages.Goals as goal
 
 pub returns-then-not-are_alike : goal.returns-then-not-are_alike

@@ -1,9 +1,5 @@
-use borrow.Author.Rules.{rules}
-use Prim.Native.Nat.{ℕ, ◌+◌, ◌-◌, ◌≤◌}
-use mathlib.Core.Path.{◌≡◌}
 use native.Mathlib.Omega.{arith}
-use lib.ListN.{get_or}
-use Rattle.scan.proofs.Gather.{Gathered, nothing, more, gathered}
+use Rattle.scan.proofs.Gather.{nothing, more, gathered}
 use Rattle.space_pages.proofs.are_zero.Goals as goal
 
 pub loop-j-init : goal.loop-j-init

@@ -1,10 +1,8 @@
 -- `are_zero`: what is not 0 is gathered.
-use borrow.Author.Rules.{rules}
 use Prim.Native.Nat.{ℕ, ◌+◌, ◌-◌, ◌≤◌}
 use mathlib.Core.Path.{◌≡◌}
-use native.Mathlib.Omega.{arith}
 use lib.ListN.{get_or}
-use Rattle.scan.proofs.Gather.{Gathered, nothing, more, gathered}
+use Rattle.scan.proofs.Gather.{Gathered}
 use Rattle.space_pages.proofs.are_zero.Given as goal
 
 abbrev pub invariant-loop-j : goal.invariant-loop-j

@@ -1,14 +1,9 @@
-use borrow.Author.Rules.{rules}
-use Prim.Native.Nat.{ℕ, ◌-◌, ◌≤◌, ◌<◌}
-use mathlib.Core.Logic.{⊎_elim}
 use native.Mathlib.Omega.{arith}
 use lib.ListN.{get_or}
 use borrow.Author.Count.{below_more}
 use Rattle.paging.proofs.Cases.{clash}
 use Rattle.space_parts.proofs.Meets.{meets, ends_before, begins_after}
 use Rattle.space_pairs.specs.Pairs.{PlacesApart}
-use Rattle.space_pairs.proofs.are_all_apart.Reads as reads
-use Rattle.space_pairs.proofs.are_all_apart.Lts as lts
 use Rattle.space_pairs.proofs.are_all_apart.Goals as goal
 use Rattle.space_pairs.proofs.are_all_apart.Goals.{then-begin-ends+then-begins-j+else-owners-j, then-begin-ends+else-begins-j, else-begin-ends}
 
@@ -41,7 +36,7 @@ loop-j-preserved c =
     let begin-i = get_or a.begins.now loop.i 0 in
     let end-i = get_or a.ends.now loop.i 0 in
     let apart : PlacesApart a.owners.now a.begins.now a.ends.now loop2.j loop.i = elim c.if-begin-ends.branch [
-      then-begin-ends+then-begins-j+else-owners-j w ↦ λ same. absurd (w.if-owners-j.false same)
+      | then-begin-ends+then-begins-j+else-owners-j w ↦ λ same. absurd (w.if-owners-j.false same)
       | then-begin-ends+else-begins-j w ↦ λ same. ends_before begin end begin-i end-i w.if-begins-j.false
       | else-begin-ends w ↦ λ same. begins_after begin end begin-i end-i w.if-begin-ends.false
     ] in

@@ -1,14 +1,7 @@
-use borrow.Author.Rules.{rules}
-use Prim.Native.Nat.{ℕ, ◌-◌, ◌≤◌, ◌<◌}
 use native.Mathlib.Omega.{arith}
 use borrow.Author.Count.{below_more}
 use borrow.Author.Tests.{not-true, not-false}
 use Rattle.paging.proofs.Cases.{decided_true, decided_false}
-use Rattle.space.specs.Space.{region_at}
-use Rattle.space_pairs.specs.Pairs.{IdsDiffer}
-use Rattle.space_pairs.proofs.are_ids_distinct.Reads as reads
-use Rattle.space_pairs.proofs.are_ids_distinct.Lts as lts
-use Rattle.space_pairs.proofs.do_ids_differ.Reads as do-ids-differ-reads
 use Rattle.space_pairs.proofs.are_ids_distinct.Goals as goal
 
 pub loop-i-init : goal.loop-i-init

@@ -1,13 +1,8 @@
 -- `are_parts_apart`: the places are those of the parts.
-use borrow.Author.Rules.{rules}
 use Rattle.paging.proofs.Cases.{decide_by}
 use Rattle.space.specs.Passes.{Apart}
 use Rattle.space_pairs.specs.Pairs.{AllApart}
 use Rattle.space_pairs.proofs.Apart.{apart_of, all_apart}
-use Rattle.space_pairs.proofs.are_parts_apart.Reads as reads
-use Rattle.space_pairs.proofs.are_parts_apart.Lts as lts
-use Rattle.space_pairs.proofs.are_all_apart.Reads as are-all-apart-reads
-use Rattle.space_parts.proofs.parts_of.Reads as parts-of-reads
 use Rattle.space_pairs.proofs.are_parts_apart.Goals as goal
 
 pub returns : goal.returns

@@ -3,8 +3,6 @@ use lib.Dec.{eqb}
 use borrow.Author.Tests.{not-true, not-false, eqb-false, ne_eqb}
 use Rattle.paging.proofs.Cases.{decide_not, clash}
 use Rattle.space_pairs.specs.Pairs.{IdsDiffer}
-use Rattle.space_pairs.proofs.do_ids_differ.Reads as reads
-use Rattle.space_pairs.proofs.do_ids_differ.Lts as lts
 use Rattle.space_pairs.proofs.do_ids_differ.Goals as goal
 
 pub returns-then-not-g : goal.returns-then-not-g

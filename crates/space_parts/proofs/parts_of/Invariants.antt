@@ -1,11 +1,6 @@
 -- `parts_of`: the places of the slots passed are filled.
-use borrow.Author.Rules.{rules}
 use Prim.Native.Nat.{◌-◌, ◌≤◌}
-use mathlib.Core.Path.{refl}
-use native.Mathlib.Omega.{arith}
-use Rattle.space_parts.proofs.Places.{Filled, region_filled, mapping_filled, all_regions, all_filled}
-use Rattle.space_parts.proofs.parts_of.Reads as reads
-use Rattle.space_parts.proofs.parts_of.Lts as lts
+use Rattle.space_parts.proofs.Places.{Filled}
 use Rattle.space_parts.proofs.parts_of.Given as goal
 
 abbrev pub invariant-loop-i : goal.invariant-loop-i

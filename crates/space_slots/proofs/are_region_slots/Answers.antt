@@ -1,5 +1,4 @@
 use borrow.Author.Rules.{rules}
-use Prim.Native.Nat.{ℕ, ◌-◌, ◌≤◌, ◌<◌}
 use mathlib.Core.Path.{◌≡◌, sym, ap}
 use native.Mathlib.Omega.{arith}
 use lib.ListN.{length}
@@ -7,7 +6,6 @@ use borrow.Author.Count.{below_more}
 use borrow.Author.Tests.{not-true, not-false}
 use Rattle.paging.proofs.Cases.{decided_true, decided_false}
 use Rattle.space.specs.Space.{region_at}
-use Rattle.space_slots.specs.Slots.{RegionSlot}
 use Rattle.space_slots.proofs.Slots.{other_parent}
 use Rattle.space_slots.proofs.are_region_slots.Goals as goal
 

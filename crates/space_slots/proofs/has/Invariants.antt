@@ -1,10 +1,7 @@
 -- `has`: the places passed hold something else.
-use borrow.Author.Rules.{rules}
 use Prim.Native.Nat.{ℕ, ◌-◌, ◌≤◌, ◌<◌}
 use mathlib.Core.Path.{◌≡◌}
-use native.Mathlib.Omega.{arith}
 use lib.ListN.{get_or}
-use borrow.Author.Count.{below_none, below_more}
 use Rattle.space_slots.proofs.has.Given as goal
 
 abbrev pub invariant-loop-k : goal.invariant-loop-k

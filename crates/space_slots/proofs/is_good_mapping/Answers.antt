@@ -1,10 +1,8 @@
 -- `is_good_mapping`: each test is a part of `GoodMapping`.
 use mathlib.Core.Path.{sym, ◌∙◌}
-use native.Mathlib.Omega.{arith}
-use borrow.Author.Tests.{leb-true, le-leb, not-true, not-false}
+use borrow.Author.Tests.{not-true, not-false}
 use Rattle.paging.proofs.Cases.{decide, clash}
 use Rattle.space.proofs.Ranges.{sum_fits, sum_over}
-use borrow.Author.Rules.{rules}
 use Rattle.space_slots.proofs.is_good_mapping.Goals as goal
 
 pub returns-then-not-p : goal.returns-then-not-p

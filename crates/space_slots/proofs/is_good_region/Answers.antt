@@ -1,5 +1,4 @@
 -- `is_good_region`: each test is a part of `GoodRegion`.
-use borrow.Author.Rules.{rules}
 use Prim.Native.Nat.{◌+◌, ◌-◌, ◌^◌}
 use mathlib.Core.Path.{sym, ◌∙◌}
 use native.Mathlib.Omega.{arith}
@@ -7,12 +6,6 @@ use borrow.Author.Tests.{leb-true, leb-false, not-true, not-false}
 use Rattle.paging.proofs.Cases.{decide, decide_by, clash}
 use Rattle.space.specs.Passes.{RootRange}
 use Rattle.space_slots.specs.Slots.{GoodRegion}
-use Rattle.space_slots.proofs.is_good_region.Reads as reads
-use Rattle.space_slots.proofs.is_good_region.Lts as lts
-use Rattle.common.proofs.defs.VmarFlags.is_known.Reads as is-known-reads
-use Rattle.space.proofs.sum_le.Reads as sum-le-reads
-use Rattle.space.proofs.within.Reads as within-reads
-use Rattle.space_slots.proofs.is_root_range.Reads as is-root-range-reads
 use Rattle.space_slots.proofs.is_good_region.Goals as goal
 
 pub returns-then-not-is_known : goal.returns-then-not-is_known

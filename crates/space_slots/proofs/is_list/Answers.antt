@@ -1,11 +1,6 @@
-use borrow.Author.Rules.{rules}
-use Prim.Native.Nat.{ℕ, ◌-◌, ◌≤◌, ◌<◌}
-use mathlib.Core.Path.{◌≡◌}
 use native.Mathlib.Omega.{arith}
-use lib.ListN.{length, get_or}
 use borrow.Author.Count.{below_more}
 use Rattle.paging.proofs.Cases.{decided_true, decided_false}
-use Rattle.space.specs.Passes.{In}
 use Rattle.space_slots.proofs.is_list.Goals as goal
 
 pub returns-then-list-count : goal.returns-then-list-count

@@ -1,11 +1,7 @@
 -- `is_list`: places of slots, then zeros.
-use borrow.Author.Rules.{rules}
 use Prim.Native.Nat.{ℕ, ◌-◌, ◌≤◌, ◌<◌}
 use mathlib.Core.Path.{◌≡◌}
-use native.Mathlib.Omega.{arith}
 use lib.ListN.{length, get_or}
-use borrow.Author.Count.{below_more}
-use Rattle.paging.proofs.Cases.{decided_true, decided_false}
 use Rattle.space.specs.Passes.{In}
 use Rattle.space_slots.proofs.is_list.Given as goal
 

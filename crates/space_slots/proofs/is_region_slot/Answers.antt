@@ -4,7 +4,6 @@ use borrow.Author.Tests.{not-true, not-false}
 use Rattle.paging.proofs.Cases.{decided_true, decided_false, decide_by, clash}
 use Rattle.space.specs.Space.{blank_region}
 use Rattle.space_slots.specs.Slots.{GoodRegion, RegionSlot}
-use borrow.Author.Rules.{rules}
 use Rattle.space_slots.proofs.is_region_slot.Goals as goal
 
 pub returns-then-not-listed : goal.returns-then-not-listed

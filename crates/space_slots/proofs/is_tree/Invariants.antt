@@ -1,12 +1,5 @@
 -- `is_tree`: place after place.
-use borrow.Author.Rules.{rules}
 use Prim.Native.Nat.{ℕ, ◌-◌, ◌≤◌, ◌<◌}
-use mathlib.Core.Path.{◌≡◌}
-use native.Mathlib.Omega.{arith}
-use lib.ListN.{length}
-use borrow.Author.Count.{below_more}
-use borrow.Author.Tests.{not-true, not-false}
-use Rattle.paging.proofs.Cases.{decided_true, decided_false}
 use Rattle.space.specs.Space.{region_at, region_place}
 use Rattle.space_slots.specs.Slots.{TreePlace}
 use Rattle.space_slots.proofs.is_tree.Given as goal

@@ -4,7 +4,6 @@ use borrow.Author.Tests.{eqb-true, eq-eqb}
 use Rattle.paging.proofs.Cases.{decide, decide_by}
 use Rattle.space.specs.Passes.{In}
 use Rattle.space_slots.specs.Slots.{TreePlace}
-use borrow.Author.Rules.{rules}
 use Rattle.space_slots.proofs.is_tree_place.Goals as goal
 
 pub returns-then-parent-eq-NO_REGION : goal.returns-then-parent-eq-NO_REGION

@@ -1,7 +1,5 @@
 -- `moved_entry`: an address alone keeps the other bits.
-use Prim.Native.Nat.{◌-◌}
 use mathlib.Core.Path.{sym, ap, ◌∙◌}
-use borrow.Author.Rules.{rules}
 use Rattle.table.specs.Table.{new_addr}
 use Rattle.table.proofs.moved_entry.Goals as goal
 

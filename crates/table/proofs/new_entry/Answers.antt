@@ -1,8 +1,7 @@
 -- `new_entry`: rights are written over the entry that was moved.
-use Prim.Native.Nat.{ℕ, ◌-◌}
+use Prim.Native.Nat.{ℕ}
 use mathlib.Core.Path.{sym, ap, ◌∙◌}
 use mathlib.Core.Bool.{Bool}
-use borrow.Author.Rules.{rules}
 use Rattle.common.specs.Page.{is_huge}
 use Rattle.x86_64.specs.Entry.{addr_of, leaf_by}
 use Rattle.table.specs.Table.{new_word}

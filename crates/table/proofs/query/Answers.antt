@@ -1,9 +1,8 @@
 -- `query`: the word at the leaf that the walk found.
-use Prim.Native.Nat.{ℕ, ◌+◌, ◌-◌, ◌/◌, ◌%◌}
+use Prim.Native.Nat.{ℕ, ◌+◌, ◌/◌, ◌%◌}
 use mathlib.Core.Path.{◌≡◌, sym, ap, ◌∙◌}
 use native.Mathlib.Omega.{arith}
 use native.Mathlib.Nat.{mod-lt}
-use borrow.Author.Rules.{rules}
 use Rattle.common.specs.Page.{size_of}
 use Rattle.common.proofs.Pages.{size_pos, size_le}
 use Rattle.x86_64.specs.Entry.{addr_of, flags_of}

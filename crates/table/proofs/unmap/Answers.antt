@@ -1,8 +1,7 @@
 -- `unmap`: the word at the leaf that the walk found becomes 0.
-use Prim.Native.Nat.{ℕ, ◌-◌, ◌/◌}
+use Prim.Native.Nat.{ℕ, ◌/◌}
 use mathlib.Core.Path.{◌≡◌, sym, ap, ◌∙◌}
 use mathlib.Core.List.{List}
-use borrow.Author.Rules.{rules}
 use Rattle.x86_64.specs.Entry.{addr_of}
 use Rattle.pool.specs.Pool.{word}
 use Rattle.walk.specs.Walk.{found}

@@ -1,8 +1,7 @@
 -- `update`: the word at the leaf that the walk found is written anew.
-use Prim.Native.Nat.{ℕ, ◌-◌, ◌/◌}
+use Prim.Native.Nat.{ℕ, ◌/◌}
 use mathlib.Core.Path.{◌≡◌, sym, ap, ◌∙◌}
 use mathlib.Core.List.{List}
-use borrow.Author.Rules.{rules}
 use Rattle.pool.specs.Pool.{word, put_word}
 use Rattle.walk.specs.Walk.{found}
 use Rattle.walk.specs.declared.Walk.TheVariants.{Leaf, Open}

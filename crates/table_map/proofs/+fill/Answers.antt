@@ -3,7 +3,6 @@ use mathlib.Core.Path.{◌≡◌, ap, ◌∙◌}
 use mathlib.Core.List.{List}
 use native.Mathlib.Omega.{arith}
 use lib.ListN.{length}
-use borrow.Author.Rules.{rules}
 use Rattle.walk.specs.declared.OpenEntry.{OpenEntry}
 use Rattle.table_map.specs.Map.{Room, grown, filled}
 use Rattle.table_map.proofs.Fills.{fill_none, fill_more, grown_length, room_under}

@@ -3,7 +3,6 @@ use Prim.Native.Nat.{ℕ, ◌+◌, ◌-◌, ◌*◌, ◌/◌}
 use mathlib.Core.Path.{◌≡◌, ap, ◌∙◌}
 use mathlib.Core.List.{List}
 use native.Mathlib.Omega.{arith}
-use borrow.Author.Rules.{rules}
 use Rattle.x86_64.specs.Entry.{frame_of, table_word}
 use Rattle.pool.specs.Pool.{put_word, zeroed}
 use Rattle.table_map.proofs.create_table.Goals as goal

@@ -1,15 +1,13 @@
-use Prim.Native.Nat.{ℕ, ◌+◌, ◌-◌, ◌/◌, ◌≤◌}
+use Prim.Native.Nat.{ℕ, ◌+◌, ◌/◌}
 use mathlib.Core.Path.{◌≡◌, sym, ap, ◌∙◌}
 use native.Mathlib.Omega.{arith}
-use borrow.Author.Rules.{rules}
 use Rattle.paging.specs.Level.{span}
 use Rattle.common.specs.Page.{size_of}
-use Rattle.form.specs.Form.{Good}
 use Rattle.walk.proofs.Sizes.{size_bytes}
-use Rattle.table_map_cont.specs.Count.{begins, counted}
+use Rattle.table_map_cont.specs.Count.{begins}
 use Rattle.table_map_cont.proofs.Heights.{Fits}
 use Rattle.table_map_cont.proofs.Pages.{span_page, range_below}
-use Rattle.table_map_cont.proofs.Runs.{fits_now, Counting, count_end, count_fail, count_next, count_start}
+use Rattle.table_map_cont.proofs.Runs.{fits_now, count_end, count_fail, count_next, count_start}
 use Rattle.table_map_cont.proofs.count.Goals as goal
 
 pub loop-remains-init : goal.loop-remains-init

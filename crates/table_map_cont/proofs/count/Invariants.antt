@@ -1,16 +1,8 @@
 -- `count`: each turn counts one page.
-use Prim.Native.Nat.{ℕ, ◌+◌, ◌-◌, ◌/◌, ◌≤◌}
-use mathlib.Core.Path.{◌≡◌, sym, ap, ◌∙◌}
-use native.Mathlib.Omega.{arith}
-use borrow.Author.Rules.{rules}
-use Rattle.paging.specs.Level.{span}
-use Rattle.common.specs.Page.{size_of}
+use Prim.Native.Nat.{◌/◌, ◌≤◌}
 use Rattle.form.specs.Form.{Good}
-use Rattle.walk.proofs.Sizes.{size_bytes}
-use Rattle.table_map_cont.specs.Count.{begins, counted}
-use Rattle.table_map_cont.proofs.Heights.{Fits}
-use Rattle.table_map_cont.proofs.Pages.{span_page, range_below}
-use Rattle.table_map_cont.proofs.Runs.{fits_now, Counting, count_end, count_fail, count_next, count_start}
+use Rattle.table_map_cont.specs.Count.{counted}
+use Rattle.table_map_cont.proofs.Runs.{Counting}
 use Rattle.table_map_cont.proofs.count.Given as goal
 
 abbrev pub invariant-loop-remains : goal.invariant-loop-remains

@@ -1,10 +1,9 @@
 -- `is_fit`: the length, then the alignment of both addresses.
-use Prim.Native.Nat.{ℕ, ◌-◌, ◌%◌}
+use Prim.Native.Nat.{ℕ, ◌%◌}
 use mathlib.Core.Path.{◌≡◌, sym, ap, ◌∙◌}
 use mathlib.Core.Bool.{true, false}
 use native.Mathlib.Omega.{arith}
 use lib.Dec.{eqb, leb}
-use borrow.Author.Rules.{rules}
 use borrow.Author.Tests.{not-true, not-false, le-leb, lt-leb}
 use Rattle.paging.specs.Level.{span}
 use Rattle.common.specs.Page.{size_of}

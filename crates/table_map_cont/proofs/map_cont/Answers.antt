@@ -2,7 +2,6 @@
 use Prim.Native.Nat.{ℕ, ◌/◌}
 use mathlib.Core.Path.{◌≡◌, sym, ap, ◌∙◌}
 use native.Mathlib.Omega.{arith}
-use borrow.Author.Rules.{rules}
 use Rattle.table_map.specs.declared.MapResult.{MapResult}
 use Rattle.table_map_cont.specs.MapCont.{top_level, pages}
 use Rattle.table_map_cont.proofs.Counted.{by_count}

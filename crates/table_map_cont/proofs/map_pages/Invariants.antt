@@ -1,19 +1,9 @@
 -- `map_pages`: each turn maps one page.
-use Prim.Native.Nat.{◌-◌, ◌/◌, ◌≤◌}
-use mathlib.Core.Path.{◌≡◌, refl, ap, ◌∙◌}
-use native.Mathlib.Omega.{arith}
+use Prim.Native.Nat.{◌/◌, ◌≤◌}
+use mathlib.Core.Path.{◌≡◌}
 use lib.ListN.{length}
-use borrow.Author.Rules.{rules}
-use Rattle.paging.specs.Level.{span}
-use Rattle.common.specs.Page.{size_of}
-use Rattle.common.specs.declared.vm.PageSize.{PageSize}
-use Rattle.walk.specs.Walk.{size_at}
-use Rattle.table_map.specs.Map.{mapped, Mapping}
-use Rattle.walk.proofs.Sizes.{size_bytes}
 use Rattle.table_map_cont.specs.MapCont.{pages}
-use Rattle.table_map_cont.proofs.Heights.{Fits}
-use Rattle.table_map_cont.proofs.Pages.{span_page, range_below}
-use Rattle.table_map_cont.proofs.Runs.{fits_now, Writing, write_end, write_fail, write_next, write_start}
+use Rattle.table_map_cont.proofs.Runs.{Writing}
 use Rattle.table_map_cont.proofs.map_pages.Given as goal
 
 abbrev pub invariant-loop-remains : goal.invariant-loop-remains

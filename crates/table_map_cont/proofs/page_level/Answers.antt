@@ -1,7 +1,6 @@
-use Prim.Native.Nat.{◌-◌, ◌≤◌}
-use mathlib.Core.Path.{◌≡◌, refl, sym, ◌∙◌}
+use mathlib.Core.Path.{refl, sym, ◌∙◌}
 use native.Mathlib.Omega.{arith}
-use Rattle.table_map_cont.specs.MapCont.{fits, page_level}
+use Rattle.table_map_cont.specs.MapCont.{fits}
 use Rattle.table_map_cont.proofs.Heights.{highest_here, highest_below, highest_none}
 use Rattle.table_map_cont.proofs.page_level.Goals as goal
 

@@ -1,9 +1,7 @@
 -- `page_level`: the levels from the top down.
-use Prim.Native.Nat.{◌-◌, ◌≤◌}
-use mathlib.Core.Path.{◌≡◌, refl, sym, ◌∙◌}
-use native.Mathlib.Omega.{arith}
-use Rattle.table_map_cont.specs.MapCont.{fits, page_level}
-use Rattle.table_map_cont.proofs.Heights.{highest_here, highest_below, highest_none}
+use Prim.Native.Nat.{◌≤◌}
+use mathlib.Core.Path.{◌≡◌}
+use Rattle.table_map_cont.specs.MapCont.{page_level}
 use Rattle.table_map_cont.proofs.page_level.Given as goal
 
 abbrev pub invariant-loop-level : goal.invariant-loop-level

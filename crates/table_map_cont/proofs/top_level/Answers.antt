@@ -1,5 +1,4 @@
 -- `top_level`: by the bit of HUGE_PAGE.
-use borrow.Author.Rules.{rules}
 use borrow.Author.Tests.{eq-eqb, ne_eqb}
 use Rattle.common.specs.Flags.{HUGE_PAGE, has}
 use Rattle.table_map_cont.proofs.top_level.Goals as goal

@@ -1,9 +1,8 @@
-use mathlib.Core.Path.{◌≡◌, sym, ap, ◌∙◌}
+use mathlib.Core.Path.{sym, ap, ◌∙◌}
 use native.Mathlib.Omega.{arith}
-use Rattle.paging.proofs.Levels.{span_pos}
 use Rattle.paging.proofs.Counts.{splits_aligned, splits_most}
 use Rattle.table_split.proofs.Needs.{splits_none, splits_one}
-use Prim.Native.Nat.{ℕ, ◌+◌, ◌-◌, ◌%◌, ◌<◌}
+use Prim.Native.Nat.{ℕ, ◌+◌, ◌-◌, ◌%◌}
 use Rattle.table_split.proofs.+count_splits.Goals as goal
 
 pub returns-then-level-eq0 : goal.returns-then-level-eq0

@@ -1,8 +1,7 @@
-use mathlib.Core.Path.{◌≡◌, sym, ap, ◌∙◌}
+use mathlib.Core.Path.{sym, ap, ◌∙◌}
 use native.Mathlib.Omega.{arith}
-use Rattle.paging.proofs.Levels.{span_pos}
 use Rattle.table_split.proofs.Needs.{left_none, left_apart, left_begin, left_lower}
-use Prim.Native.Nat.{ℕ, ◌-◌, ◌/◌, ◌%◌, ◌<◌}
+use Prim.Native.Nat.{ℕ, ◌/◌, ◌%◌}
 use Rattle.table_split.proofs.+level_left.Goals as goal
 
 pub returns-then-level-eq0 : goal.returns-then-level-eq0

@@ -1,14 +1,13 @@
 use Prim.Native.Nat.{ℕ, ◌+◌, ◌-◌, ◌/◌, ◌<◌, ◌≤◌}
 use mathlib.Core.Path.{◌≡◌, sym, ap, ◌∙◌, subst}
-use mathlib.Core.Bool.{true, false}
+use mathlib.Core.Bool.{false}
 use mathlib.Core.List.{List}
 use native.Mathlib.Omega.{arith}
 use lib.ListN.{length}
-use borrow.Author.Rules.{rules}
 use Rattle.common.specs.Page.{aligned}
 use Rattle.form.specs.Form.{Good}
 use Rattle.walk.specs.Walk.{found}
-use Rattle.walk.specs.declared.Walk.TheVariants.{Leaf, Open}
+use Rattle.walk.specs.declared.Walk.TheVariants.{Leaf}
 use Rattle.walk.proofs.Found.{leaf_in}
 use Rattle.paging.specs.Need.{splits}
 use Rattle.table_split.specs.Split.{split_leaf, leaf_over, split_at}
@@ -40,7 +39,7 @@ split-requires t c =
     let q : found a.pool.now (a.base / 4096) a.vaddr ≡ Leaf c.in-Leaf.leaf = sym c.get_entry.ensures ∙ c.in-Leaf.is in
     let off : aligned c.in-Leaf.leaf.size a.vaddr ≡ false = sym c.is_aligned.ensures ∙ c.if-is_aligned.false in
     let G = c.requires.good in
-    let w = wants a.pool.now a.base a.used G a.vaddr c.requires.aligned.0 c.in-Leaf.leaf q off in record { placed = leaf_in a.pool.now a.base a.used a.vaddr G c.in-Leaf.leaf q; room = (omega (arith, w, c.requires.room), G.sized.page, G.sized.below); }
+    let w = wants a.pool.now a.base a.used G a.vaddr c.requires.aligned.0 c.in-Leaf.leaf q off in record { placed = leaf_in a.pool.now a.base a.used a.vaddr G c.in-Leaf.leaf q; room = (omega (arith, w, c.requires.room), G.sized.page, G.sized.below) }
 
 pub overflow_add-used : goal.overflow_add-used
 overflow_add-used t c =

@@ -3,7 +3,6 @@ use Prim.Native.Nat.{◌/◌}
 use mathlib.Core.Path.{◌≡◌, sym, ◌∙◌}
 use Rattle.walk.specs.Walk.{found}
 use Rattle.walk.specs.declared.Walk.TheVariants.{Leaf, Open}
-use borrow.Author.Rules.{rules}
 use Rattle.table_split.proofs.leaf_level.Goals as goal
 
 pub returns-in_default : goal.returns-in_default

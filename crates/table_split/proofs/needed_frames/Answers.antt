@@ -1,12 +1,11 @@
 -- `needed_frames`: what both walks find, counted.
 use Prim.Native.Nat.{ℕ, ◌+◌, ◌/◌}
-use mathlib.Core.Path.{◌≡◌, ap, ◌∙◌}
+use mathlib.Core.Path.{ap, ◌∙◌}
 use native.Mathlib.Omega.{arith}
 use Rattle.paging.specs.Need.{splits, left}
 use Rattle.paging.proofs.Counts.{splits_most, left_most}
 use Rattle.table_split.specs.Split.{leaf_over}
 use Rattle.table_split.proofs.Ends.{level_most}
-use borrow.Author.Rules.{rules}
 use Rattle.table_split.proofs.needed_frames.Goals as goal
 
 pub count_splits-requires : goal.count_splits-requires

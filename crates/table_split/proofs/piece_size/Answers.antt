@@ -1,5 +1,4 @@
 -- `piece_size`, by its cases.
-use borrow.Author.Rules.{rules}
 use Rattle.table_split.proofs.piece_size.Goals as goal
 
 pub returns-in-Size4K : goal.returns-in-Size4K

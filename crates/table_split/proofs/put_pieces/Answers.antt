@@ -1,16 +1,11 @@
-use Prim.Native.Nat.{ℕ, ◌+◌, ◌-◌, ◌*◌, ◌^◌, ◌<◌, ◌≤◌}
-use mathlib.Core.Path.{◌≡◌, refl, ap, sym, ◌∙◌}
-use mathlib.Core.List.{◌++◌}
+use Prim.Native.Nat.{ℕ, ◌^◌, ◌<◌, ◌≤◌}
+use mathlib.Core.Path.{ap, sym, ◌∙◌}
 use native.Mathlib.Omega.{arith}
-use lib.ListN.{length, drop, length-set}
-use borrow.Author.Rules.{rules}
-use Rattle.common.specs.Page.{size_of}
+use lib.ListN.{length, length-set}
 use Rattle.common.specs.declared.vm.PageSize.{PageSize}
 use Rattle.x86_64.specs.Entry.{addr_of, flags_of}
 use Rattle.pool.specs.Pool.{listed}
 use Rattle.pool.proofs.Memory.{list_none, list_more, list_all}
-use Rattle.table_map.specs.Map.{leaf_for}
-use Rattle.table_split.specs.Split.{piece}
 use Rattle.table_split.proofs.Pieces.{product}
 use Rattle.common.proofs.Pages.{size_le}
 use Rattle.table_split.proofs.put_pieces.Invariants.{word_at}

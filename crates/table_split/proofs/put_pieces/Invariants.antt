@@ -1,19 +1,11 @@
 -- `put_pieces`: the words before i are pieces, the others as they were.
 use Prim.Native.Nat.{ℕ, ◌+◌, ◌-◌, ◌*◌, ◌^◌, ◌<◌, ◌≤◌}
-use mathlib.Core.Path.{◌≡◌, refl, ap, sym, ◌∙◌}
+use mathlib.Core.Path.{◌≡◌}
 use mathlib.Core.List.{◌++◌}
-use native.Mathlib.Omega.{arith}
-use lib.ListN.{length, drop, length-set}
-use borrow.Author.Rules.{rules}
-use Rattle.common.specs.Page.{size_of}
+use lib.ListN.{length, drop}
 use Rattle.common.specs.declared.vm.PageSize.{PageSize}
-use Rattle.x86_64.specs.Entry.{addr_of, flags_of}
 use Rattle.pool.specs.Pool.{listed}
-use Rattle.pool.proofs.Memory.{list_none, list_more, list_all}
 use Rattle.table_map.specs.Map.{leaf_for}
-use Rattle.table_split.specs.Split.{piece}
-use Rattle.table_split.proofs.Pieces.{product}
-use Rattle.common.proofs.Pages.{size_le}
 use Rattle.table_split.proofs.put_pieces.Given as goal
 
 -- the word of piece j, as the loop computes it

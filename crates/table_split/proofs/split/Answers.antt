@@ -10,7 +10,6 @@ use Rattle.pool.specs.Pool.{word, put_word, put_frame, listed}
 use Rattle.pool.proofs.Frames.{put_frame_lem, part_length}
 use Rattle.walk.specs.Walk.{size_at}
 use Rattle.table_split.specs.Split.{piece}
-use borrow.Author.Rules.{rules}
 use Rattle.table_split.proofs.split.Goals as goal
 
 pub put_pieces-requires : goal.put_pieces-requires

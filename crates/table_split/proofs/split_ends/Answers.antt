@@ -1,5 +1,5 @@
 -- `split_ends`: what the second split needs is what the first leaves.
-use Prim.Native.Nat.{ℕ, ◌+◌, ◌/◌, ◌≤◌}
+use Prim.Native.Nat.{◌+◌, ◌/◌, ◌≤◌}
 use mathlib.Core.Path.{◌≡◌, sym, ap, ◌∙◌, subst}
 use lib.ListN.{length}
 use Rattle.paging.specs.Need.{splits}
@@ -7,7 +7,6 @@ use Rattle.form.specs.Form.{Good}
 use Rattle.table_split.specs.Split.{leaf_over, Tables, split_at}
 use Rattle.table_split.specs.Split.{split_ends}
 use Rattle.table_split.proofs.Ends.{start_at, start_room, end_at, end_room, D₁, D₂}
-use borrow.Author.Rules.{rules}
 use Rattle.table_split.proofs.split_ends.Goals as goal
 
 pub split_at-after_start-requires : goal.split_at-after_start-requires

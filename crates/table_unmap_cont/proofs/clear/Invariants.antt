@@ -1,15 +1,9 @@
 -- `clear`: what is left to empty stays what it was at the start.
-use Prim.Native.Nat.{ℕ, ◌+◌, ◌-◌, ◌*◌, ◌/◌, ◌%◌, ◌<◌, ◌≤◌}
-use mathlib.Core.Path.{◌≡◌, refl, sym, ap, ◌∙◌}
-use mathlib.Core.List.{List}
-use native.Mathlib.Omega.{arith}
-use native.Mathlib.Nat.{mod-lt}
+use Prim.Native.Nat.{◌-◌, ◌*◌, ◌/◌}
+use mathlib.Core.Path.{◌≡◌}
 use lib.ListN.{length}
 use Rattle.form.specs.Form.{Good}
-use Rattle.walk.specs.Walk.{found}
-use Rattle.table_unmap_cont.specs.UnmapCont.{span_of, emptied, after, cleared}
-use Rattle.table_unmap_cont.proofs.Clears.{after_gt, offset_lt, cleared_end, cleared_more, cleared_last, empty}
-use Rattle.table_unmap_cont.proofs.Bound.{enough}
+use Rattle.table_unmap_cont.specs.UnmapCont.{cleared}
 use Rattle.table_unmap_cont.proofs.clear.Given as goal
 
 abbrev pub invariant-loop-vaddr : goal.invariant-loop-vaddr

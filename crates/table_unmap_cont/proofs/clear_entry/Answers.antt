@@ -8,7 +8,6 @@ use Rattle.walk.specs.declared.Walk.TheVariants.{Leaf, Open}
 use Rattle.walk.proofs.Found.{leaf_in, unused}
 use Rattle.table_unmap_cont.specs.UnmapCont.{emptied}
 use Rattle.table_unmap_cont.proofs.Clears.{empty}
-use borrow.Author.Rules.{rules}
 use Rattle.table_unmap_cont.proofs.clear_entry.Goals as goal
 
 pub set_entry-requires : goal.set_entry-requires

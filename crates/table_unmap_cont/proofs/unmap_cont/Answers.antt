@@ -1,5 +1,5 @@
 -- `unmap_cont`: the count, the test, the splits at both ends, the emptying.
-use Prim.Native.Nat.{ℕ, ◌+◌, ◌-◌, ◌/◌, ◌^◌, ◌<◌}
+use Prim.Native.Nat.{ℕ, ◌+◌, ◌/◌, ◌^◌, ◌<◌}
 use mathlib.Core.Path.{◌≡◌, ap, ◌∙◌}
 use mathlib.Core.Logic.{⊎_elim}
 use mathlib.Core.List.{List}
@@ -11,7 +11,6 @@ use Rattle.table_split.specs.Split.{needed}
 use Rattle.table_unmap_cont.specs.UnmapCont.{cut_from}
 use Rattle.table_unmap_cont.specs.declared.UnmapContResult.TheVariants.{Unmapped}
 use Rattle.table_unmap_cont.proofs.Calls.{cont_empty, cont_short, cont_done}
-use borrow.Author.Rules.{rules}
 use Rattle.table_unmap_cont.proofs.unmap_cont.Goals as goal
 
 -- the end of a range is a number of 64 bits

@@ -1,5 +1,5 @@
 -- `check_aligned`: a remainder by 0 is the number itself.
-use Rattle.std.proofs.Common.{ℕ, eqb, sym, ap, ◌∙◌, rules}
+use Rattle.std.proofs.Common.{ℕ, eqb, sym, ap, ◌∙◌}
 use native.Mathlib.Nat.{mod-zero}
 use Rattle.vm.specs.Align.{multiple}
 use Rattle.vm.proofs.check_aligned.Goals as goal

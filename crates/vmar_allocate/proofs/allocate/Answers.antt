@@ -4,12 +4,9 @@ use mathlib.Core.Path.{sym, ◌∙◌, ap, subst}
 use borrow.Author.Tests.{eq-eqb, ne_eqb, lt-ltb, le-ltb, not-true, not-false}
 use Rattle.space.specs.Passes.{LiveIn}
 use Rattle.vmar_offset.specs.Offset.{determine_offset}
-use Rattle.vmar_offset.specs.declared.OffsetResult.TheVariants as offset
 use Rattle.vmar_offset.proofs.Found.{slot_live, determined_free, free_fits}
 use Rattle.vmar_allocate.specs.Allocate.{settled}
 use Rattle.vmar_allocate.proofs.Allocates.{never_issued, unknown, dead, alive}
-use Rattle.vmar_allocate.specs.declared.AllocateResult.TheVariants as result
-use borrow.Author.Rules.{rules}
 use Rattle.vmar_allocate.proofs.allocate.Goals as goal
 
 pub returns-then-s-id : goal.returns-then-s-id

@@ -7,11 +7,9 @@ use Rattle.space.specs.Space.{region_at}
 use Rattle.space.specs.declared.Space.{Space}
 use Rattle.space.proofs.Facts.{region_end, region_room}
 use Rattle.vmar_offset.specs.Offset.{free_region}
-use Rattle.vmar_offset.specs.declared.OffsetResult.TheVariants as offset
 use Rattle.vmar_offset.proofs.Found.{free_region_lem}
 use Rattle.vmar_allocate.proofs.Allocates.{no_slot, no_id, made}
 use Rattle.vmar_allocate.specs.declared.AllocateResult.TheVariants as result
-use borrow.Author.Rules.{rules}
 use Rattle.vmar_allocate.proofs.place.Goals as goal
 
 pub returns-then-slot-eq-REGIONS : goal.returns-then-slot-eq-REGIONS

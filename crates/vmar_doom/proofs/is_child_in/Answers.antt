@@ -1,11 +1,8 @@
 -- `is_child_in`: of the region, and within the range.
-use borrow.Author.Rules.{rules}
 use mathlib.Core.Path.{refl}
 use borrow.Author.Tests.{eq-eqb, ne_eqb}
 use Rattle.scan.proofs.Picks.{on, off}
-use Rattle.space.specs.Range.{inside}
 use Rattle.vmar_doom.specs.Doomed.{is_child_in}
-use borrow.Author.Rules.{rules}
 use Rattle.vmar_doom.proofs.is_child_in.Goals as goal
 
 pub returns-then-g-r : goal.returns-then-g-r

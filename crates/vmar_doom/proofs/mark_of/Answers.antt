@@ -1,10 +1,8 @@
 -- `mark_of`: past the last slot there is no mark.
-use borrow.Author.Rules.{rules}
 use Prim.Native.Nat.{ℕ, ◌≤◌}
-use mathlib.Core.Path.{◌≡◌, refl, sym, subst}
+use mathlib.Core.Path.{sym, subst}
 use mathlib.Core.Bool.{false}
 use lib.ListN.{get_or-eq_default}
-use borrow.Author.Rules.{rules}
 use Rattle.vmar_doom.proofs.mark_of.Goals as goal
 
 pub returns : goal.returns

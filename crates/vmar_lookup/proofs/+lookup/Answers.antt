@@ -1,12 +1,7 @@
-use borrow.Author.Rules.{rules}
-use Prim.Native.Nat.{ℕ, ◌<◌}
 use mathlib.Core.Path.{sym, ◌∙◌, ap}
 use native.Mathlib.Omega.{arith}
 use Rattle.vmar_lookup.specs.Lookup.{follow}
-use Rattle.vmar_lookup.specs.declared.FlagsResult.TheVariants as result
-use Rattle.vmar_lookup.specs.declared.Found.TheVariants as found
 use Rattle.vmar_lookup.proofs.Lookups.{child_lives, no_depth, some_depth}
-use Prim.Native.Nat.{ℕ, ◌<◌}
 use Rattle.vmar_lookup.proofs.+lookup.Goals as goal
 
 pub returns-then-depth-eq0 : goal.returns-then-depth-eq0

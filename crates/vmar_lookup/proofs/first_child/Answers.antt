@@ -1,13 +1,8 @@
-use borrow.Author.Rules.{rules}
-use Prim.Native.Nat.{◌-◌, ◌≤◌}
-use mathlib.Core.Path.{◌≡◌, refl, sym, ◌∙◌}
+use mathlib.Core.Path.{refl, sym, ◌∙◌}
 use native.Mathlib.Omega.{arith}
 use Rattle.space.proofs.Facts.{region_place_lem}
-use Rattle.scan.specs.Scan.{first}
 use Rattle.scan.proofs.Scans.{first_here, first_later, first_none}
 use Rattle.vmar_lookup.specs.Lookup.{holds_child}
-use Rattle.vmar_lookup.specs.declared.FlagsResult.TheVariants as result
-use Rattle.vmar_lookup.specs.declared.Found.TheVariants as found
 use Rattle.vmar_lookup.proofs.first_child.Goals as goal
 
 pub loop-k-init : goal.loop-k-init

@@ -1,14 +1,8 @@
 -- `first_mapping`: the places passed do not hold the address.
-use borrow.Author.Rules.{rules}
 use Prim.Native.Nat.{◌-◌, ◌≤◌}
-use mathlib.Core.Path.{◌≡◌, refl, sym, ◌∙◌}
-use native.Mathlib.Omega.{arith}
+use mathlib.Core.Path.{◌≡◌}
 use Rattle.scan.specs.Scan.{first}
-use Rattle.scan.proofs.Scans.{first_here, first_later, first_none}
-use Rattle.space.proofs.Facts.{mapping_place_lem}
 use Rattle.vmar_lookup.specs.Lookup.{holds_mapping}
-use Rattle.vmar_lookup.specs.declared.FlagsResult.TheVariants as result
-use Rattle.vmar_lookup.specs.declared.Found.TheVariants as found
 use Rattle.vmar_lookup.proofs.first_mapping.Given as goal
 
 abbrev pub invariant-loop-k : goal.invariant-loop-k

@@ -4,10 +4,7 @@ use mathlib.Core.Path.{sym, ◌∙◌, ap}
 use native.Mathlib.Omega.{arith}
 use Rattle.space.specs.Space.{mapping_at}
 use Rattle.vmar_lookup.specs.Lookup.{page_flags}
-use Rattle.vmar_lookup.specs.declared.FlagsResult.TheVariants as result
-use Rattle.vmar_lookup.specs.declared.Found.TheVariants as found
 use Rattle.vmar_lookup.proofs.Lookups.{found_holds, page_in}
-use borrow.Author.Rules.{rules}
 use Rattle.vmar_lookup.proofs.get_mapping_flags.Goals as goal
 
 pub offset_bounds-s-slot : goal.offset_bounds-s-slot

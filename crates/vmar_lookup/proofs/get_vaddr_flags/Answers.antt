@@ -2,9 +2,6 @@
 use Prim.Native.Nat.{◌/◌}
 use mathlib.Core.Path.{sym, ◌∙◌, ap}
 use Rattle.vmar_lookup.specs.Lookup.{answered, table_flags}
-use Rattle.vmar_lookup.specs.declared.FlagsResult.TheVariants as result
-use Rattle.vmar_lookup.specs.declared.Found.TheVariants as found
-use borrow.Author.Rules.{rules}
 use Rattle.vmar_lookup.proofs.get_vaddr_flags.Goals as goal
 
 pub returns-in-Page : goal.returns-in-Page

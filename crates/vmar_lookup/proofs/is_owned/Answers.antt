@@ -2,11 +2,7 @@
 use mathlib.Core.Path.{refl}
 use borrow.Author.Tests.{eq-eqb, ne_eqb}
 use Rattle.scan.proofs.Picks.{on, off}
-use Rattle.space.specs.Range.{contains}
 use Rattle.vmar_lookup.specs.Lookup.{owned}
-use Rattle.vmar_lookup.specs.declared.FlagsResult.TheVariants as result
-use Rattle.vmar_lookup.specs.declared.Found.TheVariants as found
-use borrow.Author.Rules.{rules}
 use Rattle.vmar_lookup.proofs.is_owned.Goals as goal
 
 pub returns-then-owner-r : goal.returns-then-owner-r

@@ -1,11 +1,7 @@
 -- `step`: outside, a child, a mapping, nothing.
 use mathlib.Core.Path.{sym, ◌∙◌}
 use borrow.Author.Tests.{lt-ltb, le-ltb, not-true, not-false}
-use Rattle.space.specs.Range.{contains}
-use Rattle.vmar_lookup.specs.declared.FlagsResult.TheVariants as result
-use Rattle.vmar_lookup.specs.declared.Found.TheVariants as found
 use Rattle.vmar_lookup.proofs.Lookups.{outside, downward, at_mapping_lem, nothing_there}
-use borrow.Author.Rules.{rules}
 use Rattle.vmar_lookup.proofs.step.Goals as goal
 
 pub returns-then-not-contains : goal.returns-then-not-contains

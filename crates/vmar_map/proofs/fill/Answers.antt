@@ -1,11 +1,9 @@
-use borrow.Author.Rules.{rules}
-use Prim.Native.Nat.{ℕ, ◌+◌, ◌-◌, ◌≤◌}
+use Prim.Native.Nat.{ℕ, ◌+◌}
 use mathlib.Core.Path.{◌≡◌, refl, ◌∙◌, ap}
 use mathlib.Core.List.{List}
 use native.Mathlib.Omega.{arith}
-use lib.ListN.{length, set, length-set}
+use lib.ListN.{set, length-set}
 use Rattle.vmar_map.specs.Map.{filled}
-use Rattle.vmar_map.specs.declared.MapExtResult.TheVariants as result
 use Rattle.vmar_map.proofs.Maps.{filled_more, filled_none}
 use Rattle.vmar_map.proofs.fill.Goals as goal
 

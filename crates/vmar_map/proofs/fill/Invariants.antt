@@ -1,13 +1,8 @@
 -- `fill`: byte after byte.
-use borrow.Author.Rules.{rules}
-use Prim.Native.Nat.{ℕ, ◌+◌, ◌-◌, ◌≤◌}
-use mathlib.Core.Path.{◌≡◌, refl, ◌∙◌, ap}
-use mathlib.Core.List.{List}
-use native.Mathlib.Omega.{arith}
-use lib.ListN.{length, set, length-set}
+use Prim.Native.Nat.{◌+◌, ◌-◌, ◌≤◌}
+use mathlib.Core.Path.{◌≡◌}
+use lib.ListN.{length}
 use Rattle.vmar_map.specs.Map.{filled}
-use Rattle.vmar_map.specs.declared.MapExtResult.TheVariants as result
-use Rattle.vmar_map.proofs.Maps.{filled_more, filled_none}
 use Rattle.vmar_map.proofs.fill.Given as goal
 
 abbrev pub invariant-loop-j : goal.invariant-loop-j

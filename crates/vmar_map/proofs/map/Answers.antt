@@ -2,9 +2,7 @@
 use mathlib.Core.Path.{sym, ◌∙◌, ap}
 use borrow.Author.Tests.{lt-ltb, le-ltb, not-true, not-false}
 use Rattle.vmar_map.specs.Map.{after_tests}
-use Rattle.vmar_map.specs.declared.MapExtResult.TheVariants as result
 use Rattle.vmar_map.proofs.Maps.{fine_length, never_issued, unknown_permissions, unknown_flags, known_all}
-use borrow.Author.Rules.{rules}
 use Rattle.vmar_map.proofs.map.Goals as goal
 
 pub returns-then-s-id : goal.returns-then-s-id

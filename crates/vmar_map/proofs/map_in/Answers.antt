@@ -6,9 +6,7 @@ use Rattle.space.specs.Passes.{LiveIn}
 use Rattle.vmar_offset.specs.Offset.{determine_offset}
 use Rattle.vmar_offset.proofs.Found.{slot_live, determined_free, free_fits}
 use Rattle.vmar_map.specs.Map.{settled}
-use Rattle.vmar_map.specs.declared.MapExtResult.TheVariants as result
 use Rattle.vmar_map.proofs.Maps.{dead, alive}
-use borrow.Author.Rules.{rules}
 use Rattle.vmar_map.proofs.map_in.Goals as goal
 
 pub returns-then-r-eq-NO_REGION : goal.returns-then-r-eq-NO_REGION

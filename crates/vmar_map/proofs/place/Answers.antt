@@ -7,10 +7,8 @@ use Rattle.space.specs.Space.{region_at}
 use Rattle.space.proofs.Facts.{region_end, mapping_room}
 use Rattle.vmar_offset.specs.Offset.{free_mapping}
 use Rattle.vmar_offset.proofs.Found.{free_mapping_lem}
-use Rattle.vmar_map.specs.declared.MapExtResult.TheVariants as result
 use Rattle.common.proofs.Sets.{byte}
 use Rattle.vmar_map.proofs.Maps.{unaligned, too_many, no_slot, made}
-use borrow.Author.Rules.{rules}
 use Rattle.vmar_map.proofs.place.Goals as goal
 
 pub overflow_add-addr : goal.overflow_add-addr

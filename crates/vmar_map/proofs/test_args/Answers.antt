@@ -1,9 +1,7 @@
 -- `test_args`: the Rust's tests in their order.
 use mathlib.Core.Path.{sym, ◌∙◌}
 use borrow.Author.Tests.{eq-eqb, ne_eqb, not-true, not-false}
-use Rattle.vmar_map.specs.declared.MapExtResult.TheVariants as result
 use Rattle.vmar_map.proofs.Maps.{odd_offset, odd_length, over, denied, faulting, past_vmo, in_vmo}
-use borrow.Author.Rules.{rules}
 use Rattle.vmar_map.proofs.test_args.Goals as goal
 
 pub returns-then-not-page_aligned : goal.returns-then-not-page_aligned

@@ -1,11 +1,8 @@
 -- `determine_offset`: the length, then the offset asked for, or the search.
-use borrow.Author.Rules.{rules}
 use mathlib.Core.Path.{sym, ◌∙◌, ap}
 use native.Mathlib.Omega.{arith}
 use borrow.Author.Tests.{lt-ltb, le-ltb, not-true, not-false}
-use Rattle.vmar_offset.specs.Offset.{taken, found}
-use Rattle.vmar_offset.specs.declared.Offset.TheVariants as offset
-use Rattle.vmar_offset.specs.declared.OffsetResult.TheVariants as result
+use Rattle.vmar_offset.specs.Offset.{found}
 use Rattle.vmar_offset.proofs.Offsets.{odd_length, asked_odd, asked_full, asked_free, too_large, searched}
 use Rattle.vmar_offset.proofs.determine_offset.Goals as goal
 

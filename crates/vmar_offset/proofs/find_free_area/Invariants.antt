@@ -1,24 +1,8 @@
 -- `find_free_area`: the places passed are not taken.
-use borrow.Author.Rules.{rules}
 use Prim.Native.Nat.{◌-◌, ◌≤◌}
-use mathlib.Core.Path.{◌≡◌, refl, sym, ◌∙◌}
-use native.Mathlib.Omega.{arith}
-use borrow.Author.Tests.{eq-eqb, ne_eqb, lt-ltb, le-ltb, not-true, not-false}
+use mathlib.Core.Path.{◌≡◌}
 use Rattle.scan.specs.Scan.{first}
-use Rattle.scan.proofs.Scans.{first_here, first_later, first_none}
-use Rattle.space.specs.Space.{region_place, mapping_place}
-use Rattle.space.proofs.Facts.{region_end, child_in, mapping_in, region_place_lem, mapping_place_lem}
-use Rattle.space_parts.proofs.Meets.{passing_fits}
-use Rattle.vmar_offset.specs.Offset.{takes_child, takes_mapping, child_end, mapping_end}
-use Rattle.vmar_offset.specs.declared.Offset.TheVariants as offset
-use Rattle.vmar_offset.specs.declared.OffsetResult.TheVariants as result
-use Rattle.vmar_offset.proofs.Free.{fits_there}
-use Rattle.vmar_offset.proofs.Offsets.{at_zero, at_child_lem, at_mapping_lem, nowhere, no_child, odd_child, tried_child, no_mapping, odd_mapping, tried_mapping}
-use Rattle.vmar_offset.proofs.find_free_area.Reads as reads
-use Rattle.vmar_offset.proofs.find_free_area.Lts as lts
-use Rattle.space_parts.proofs.parts_of.Reads as parts-of-reads
-use Rattle.vm.proofs.check_aligned.Reads as check-aligned-reads
-use Rattle.vmar_offset.proofs.fits.Reads as fits-reads
+use Rattle.vmar_offset.specs.Offset.{takes_child, takes_mapping}
 use Rattle.vmar_offset.proofs.find_free_area.Given as goal
 
 abbrev pub invariant-loop-k : goal.invariant-loop-k

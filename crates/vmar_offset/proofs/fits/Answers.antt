@@ -1,15 +1,10 @@
 -- `fits`: room, then nothing met.
-use borrow.Author.Rules.{rules}
 use Prim.Native.Nat.{◌+◌}
 use mathlib.Core.Path.{sym, ◌∙◌, ap}
 use mathlib.Core.Bool.{not}
 use native.Mathlib.Omega.{arith}
 use borrow.Author.Tests.{leb-true, not-true, not-false}
 use Rattle.vmar_offset.proofs.Free.{no_room, room_for}
-use Rattle.vmar_offset.proofs.fits.Reads as reads
-use Rattle.vmar_offset.proofs.fits.Lts as lts
-use Rattle.space.proofs.sum_le.Reads as sum-le-reads
-use Rattle.vmar_offset.proofs.is_met.Reads as is-met-reads
 use Rattle.vmar_offset.proofs.fits.Goals as goal
 
 pub returns-then-not-sum_le : goal.returns-then-not-sum_le

@@ -1,12 +1,7 @@
-use borrow.Author.Rules.{rules}
-use Prim.Native.Nat.{◌-◌, ◌≤◌}
-use mathlib.Core.Path.{◌≡◌, refl, sym, ◌∙◌}
+use mathlib.Core.Path.{refl, sym, ◌∙◌}
 use native.Mathlib.Omega.{arith}
-use Rattle.scan.specs.Scan.{first}
 use Rattle.scan.proofs.Scans.{first_here, first_later, first_none}
-use Rattle.vmar_offset.specs.Offset.{is_free_mapping, free_mapping, taken}
-use Rattle.vmar_offset.specs.declared.Offset.TheVariants as offset
-use Rattle.vmar_offset.specs.declared.OffsetResult.TheVariants as result
+use Rattle.vmar_offset.specs.Offset.{is_free_mapping}
 use Rattle.vmar_offset.proofs.free_mapping.Goals as goal
 
 pub loop-i-init : goal.loop-i-init

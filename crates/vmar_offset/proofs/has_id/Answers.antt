@@ -2,9 +2,7 @@
 use mathlib.Core.Path.{refl}
 use borrow.Author.Tests.{not-true, not-false}
 use Rattle.scan.proofs.Picks.{on, off}
-use Rattle.vmar_offset.specs.Offset.{has_id, taken}
-use Rattle.vmar_offset.specs.declared.Offset.TheVariants as offset
-use Rattle.vmar_offset.specs.declared.OffsetResult.TheVariants as result
+use Rattle.vmar_offset.specs.Offset.{has_id}
 use Rattle.vmar_offset.proofs.has_id.Goals as goal
 
 pub returns-then-not-g : goal.returns-then-not-g

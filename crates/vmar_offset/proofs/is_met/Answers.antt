@@ -1,11 +1,7 @@
-use borrow.Author.Rules.{rules}
-use Prim.Native.Nat.{◌-◌, ◌≤◌}
 use mathlib.Core.Path.{◌≡◌, refl, sym, ◌∙◌}
 use mathlib.Core.Bool.{false}
-use mathlib.Core.Logic.{⊎_elim}
 use native.Mathlib.Omega.{arith}
 use lib.ListN.{get_or}
-use Rattle.scan.specs.Scan.{some}
 use Rattle.scan.proofs.Scans.{some_here, some_later, some_none}
 use Rattle.space_parts.proofs.Meets.{meets, ends_before, begins_after}
 use Rattle.vmar_offset.specs.Fit.{meets_at}
@@ -33,7 +29,7 @@ loop-i-preserved c =
     let past = passed a.owners.now a.begins.now a.ends.now a.r a.begin a.end loop.i in
     let unmet : meets_at a.owners.now a.begins.now a.ends.now a.r a.begin a.end loop.i ≡ false =
     elim c.if-begin-ends.branch [
-      then-begin-ends+then-begins-i+else-owners-i w ↦ of_another a.owners.now a.begins.now a.ends.now a.r a.begin a.end loop.i w.if-owners-i.false
+      | then-begin-ends+then-begins-i+else-owners-i w ↦ of_another a.owners.now a.begins.now a.ends.now a.r a.begin a.end loop.i w.if-owners-i.false
       | then-begin-ends+else-begins-i w ↦ past (ends_before begin end a.begin a.end w.if-begins-i.false)
       | else-begin-ends w ↦ past (begins_after begin end a.begin a.end w.if-begin-ends.false)
     ] in

@@ -2,11 +2,7 @@
 use mathlib.Core.Path.{refl}
 use borrow.Author.Tests.{eq-eqb, ne_eqb, not-true, not-false}
 use Rattle.scan.proofs.Picks.{on, off}
-use Rattle.space.specs.Range.{overlap}
-use Rattle.vmar_offset.specs.Offset.{mapping_meets, taken}
-use Rattle.vmar_offset.specs.declared.Offset.TheVariants as offset
-use Rattle.vmar_offset.specs.declared.OffsetResult.TheVariants as result
-use borrow.Author.Rules.{rules}
+use Rattle.vmar_offset.specs.Offset.{mapping_meets}
 use Rattle.vmar_offset.proofs.mapping_meets.Goals as goal
 
 pub returns-then-not-m : goal.returns-then-not-m

@@ -1,13 +1,8 @@
 -- `test_map`: where everything lies, then whether the range fits.
-use borrow.Author.Rules.{rules}
 use mathlib.Core.Path.{◌∙◌}
 use Rattle.space.proofs.Facts.{region_end}
 use Rattle.space_parts.proofs.Meets.{passing_fits}
 use Rattle.vmar_offset.proofs.Free.{fits_there}
-use Rattle.vmar_offset.proofs.test_map.Reads as reads
-use Rattle.vmar_offset.proofs.test_map.Lts as lts
-use Rattle.space_parts.proofs.parts_of.Reads as parts-of-reads
-use Rattle.vmar_offset.proofs.fits.Reads as fits-reads
 use Rattle.vmar_offset.proofs.test_map.Goals as goal
 
 pub parts_of-parts-requires : goal.parts_of-parts-requires

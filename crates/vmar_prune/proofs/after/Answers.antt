@@ -1,7 +1,5 @@
 -- `after`: none where the mapping ends before.
-use borrow.Author.Rules.{rules}
 use Rattle.vmar_prune.proofs.Parts.{after_none, after_is}
-use borrow.Author.Rules.{rules}
 use Rattle.vmar_prune.proofs.after.Goals as goal
 
 pub returns-then-top-end : goal.returns-then-top-end

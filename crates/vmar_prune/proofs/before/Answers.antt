@@ -1,7 +1,5 @@
 -- `before`: none where the mapping begins later.
-use borrow.Author.Rules.{rules}
 use Rattle.vmar_prune.proofs.Parts.{before_none, before_is}
-use borrow.Author.Rules.{rules}
 use Rattle.vmar_prune.proofs.before.Goals as goal
 
 pub returns-then-begin-m : goal.returns-then-begin-m

@@ -1,6 +1,5 @@
-use borrow.Author.Rules.{rules}
-use Prim.Native.Nat.{ℕ, ◌+◌, ◌-◌, ◌≤◌}
-use mathlib.Core.Path.{◌≡◌, sym, ◌∙◌, ap, subst}
+use Prim.Native.Nat.{ℕ, ◌+◌}
+use mathlib.Core.Path.{◌≡◌, ◌∙◌, ap}
 use mathlib.Core.List.{List}
 use native.Mathlib.Omega.{arith}
 use lib.Dec.{ltb}
@@ -20,7 +19,7 @@ page_at-b-requires c =
     (ap length c.loop-j.invariant.1 ∙ copied_length a.flags.now a.to a.from a.n c.loop-j.j ∙ pre.0, pre.2)
 
 pub overflow_add-flags : goal.overflow_add-flags
-overflow_add-flags c = let pre = c.requires in  let top = pre.1 in record { fits = omega arith }
+overflow_add-flags c = let pre = c.requires in let top = pre.1 in record { fits = omega arith }
 
 pub bounds-flags-to : goal.bounds-flags-to
 bounds-flags-to c =

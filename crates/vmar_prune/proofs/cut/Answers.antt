@@ -1,9 +1,7 @@
 -- `cut`: the Rust's four cases.
-use borrow.Author.Rules.{rules}
-use mathlib.Core.Path.{◌≡◌, sym, ◌∙◌, subst}
+use mathlib.Core.Path.{sym, ◌∙◌, subst}
 use Prim.Native.Nat.{ℕ, ◌≤◌}
 use Rattle.vmar_prune.proofs.Parts.{after_most, keeps_left, keeps_right, keeps_none}
-use borrow.Author.Rules.{rules}
 use Rattle.vmar_prune.proofs.cut.Goals as goal
 
 pub returns-then-first-ne0 : goal.returns-then-first-ne0

@@ -1,16 +1,13 @@
 -- `cut_flags`: the second part's pages are handed over, then each slot keeps its own.
-use borrow.Author.Rules.{rules}
-use Prim.Native.Nat.{ℕ, ◌≤◌}
-use mathlib.Core.Path.{◌≡◌, sym, ◌∙◌, ap, subst}
+use Prim.Native.Nat.{ℕ}
+use mathlib.Core.Path.{sym, ◌∙◌, ap, subst}
 use mathlib.Core.List.{List}
-use native.Mathlib.Omega.{arith}
 use lib.ListN.{length, get_or}
 use Rattle.space.specs.Space.{blank_mapping, mapping_at}
 use Rattle.space.specs.declared.Mapping.{Mapping}
 use Rattle.vmar_prune.specs.Prune.{retained_to, handed_over}
 use Rattle.vmar_prune.specs.Steps.{Fitting}
 use Rattle.vmar_prune.proofs.Parts.{hand_length, mappings_at, kept_fits, short_at}
-use borrow.Author.Rules.{rules}
 use Rattle.vmar_prune.proofs.cut_flags.Goals as goal
 
 pub retain_all-requires : goal.retain_all-requires

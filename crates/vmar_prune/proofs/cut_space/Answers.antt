@@ -1,15 +1,12 @@
 -- `cut_space`: without what goes, and with the second part of a split.
-use borrow.Author.Rules.{rules}
-use Prim.Native.Nat.{ℕ, ◌+◌, ◌-◌, ◌*◌, ◌/◌, ◌≤◌, ◌<◌}
-use mathlib.Core.Path.{◌≡◌, sym, ◌∙◌, ap, subst}
+use Prim.Native.Nat.{ℕ, ◌≤◌, ◌<◌}
+use mathlib.Core.Path.{sym, ◌∙◌, ap, subst}
 use native.Mathlib.Omega.{arith}
 use Rattle.space.specs.Space.{mapping_at, with_mapping}
 use Rattle.space.specs.declared.Mapping.{Mapping}
 use Rattle.space.specs.declared.Space.{Space}
 use Rattle.vmar_prune.specs.Prune.{pruned}
-use Rattle.vmar_prune.specs.Piece.{right}
 use Rattle.vmar_prune.proofs.Parts.{short_at, after_most, list_room, cut_whole, cut_split}
-use borrow.Author.Rules.{rules}
 use Rattle.vmar_prune.proofs.cut_space.Goals as goal
 
 pub returns-then-i-ge-MAPPINGS : goal.returns-then-i-ge-MAPPINGS

@@ -1,14 +1,11 @@
 -- `hand_over`: the second part's pages, where there is one.
-use borrow.Author.Rules.{rules}
-use Prim.Native.Nat.{ℕ, ◌+◌, ◌-◌, ◌*◌, ◌/◌, ◌≤◌, ◌<◌}
-use mathlib.Core.Path.{◌≡◌, sym, ◌∙◌, ap, subst}
-use mathlib.Core.Logic.{◌⊎◌, inl, inr, ⊎_elim}
+use Prim.Native.Nat.{ℕ, ◌≤◌, ◌<◌}
+use mathlib.Core.Path.{sym, ◌∙◌, subst}
+use mathlib.Core.Logic.{inl, inr, ⊎_elim}
 use native.Mathlib.Omega.{arith}
 use Rattle.paging.proofs.Cases.{below?}
 use Rattle.space.specs.Space.{mapping_at}
-use Rattle.vmar_prune.specs.Piece.{after}
 use Rattle.vmar_prune.proofs.Parts.{short_at, after_most, hand_whole, hand_split}
-use borrow.Author.Rules.{rules}
 use Rattle.vmar_prune.proofs.hand_over.Goals as goal
 
 pub returns-then-i-ge-MAPPINGS : goal.returns-then-i-ge-MAPPINGS

@@ -1,10 +1,6 @@
 -- `is_split`: of the region, and kept on both sides.
-use borrow.Author.Rules.{rules}
-use mathlib.Core.Path.{sym, ◌∙◌, ap}
-use mathlib.Core.Bool.{not}
 use borrow.Author.Tests.{not-true, not-false}
 use Rattle.vmar_prune.proofs.Parts.{split_free, split_other, split_left, split_both}
-use borrow.Author.Rules.{rules}
 use Rattle.vmar_prune.proofs.is_split.Goals as goal
 
 pub returns-then-not-m : goal.returns-then-not-m

@@ -1,8 +1,6 @@
 -- `kept_mapping`: by the region's mark, then by the cut.
-use borrow.Author.Rules.{rules}
 use mathlib.Core.Path.{◌∙◌}
 use Rattle.vmar_prune.proofs.Parts.{kept_doomed, kept_other, kept_own}
-use borrow.Author.Rules.{rules}
 use Rattle.vmar_prune.proofs.kept_mapping.Goals as goal
 
 pub returns-then-marks-region : goal.returns-then-marks-region

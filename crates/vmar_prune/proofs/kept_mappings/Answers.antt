@@ -1,5 +1,3 @@
-use borrow.Author.Rules.{rules}
-use Prim.Native.Nat.{ℕ, ◌+◌, ◌-◌, ◌≤◌}
 use mathlib.Core.Path.{◌≡◌, ◌∙◌, ap}
 use mathlib.Core.List.{List}
 use native.Mathlib.Omega.{arith}
@@ -25,8 +23,7 @@ bounds-maps-i c = c.loop-i-test.true
 pub loop-i-preserved : goal.loop-i-preserved
 loop-i-preserved c =
     let a = c.args in
-    let loop = c.loop-i in
- (
+    let loop = c.loop-i in (
       omega arith,
       ap (λ (m : List Mapping). set m loop.i c.kept_mapping.result) loop.invariant.1
           ∙ ap (set (mappings_to a.marks.now a.r a.begin a.end a.s.mappings loop.i) loop.i) c.kept_mapping.ensures

@@ -1,8 +1,6 @@
 -- `kept_region`: a doomed one gives its slot back.
-use borrow.Author.Rules.{rules}
 use mathlib.Core.Path.{refl}
-use Rattle.scan.proofs.Picks.{on, off}
-use borrow.Author.Rules.{rules}
+use Rattle.scan.proofs.Picks.{on}
 use Rattle.vmar_prune.proofs.kept_region.Goals as goal
 
 pub returns-then-is_doomed : goal.returns-then-is_doomed

@@ -1,5 +1,3 @@
-use borrow.Author.Rules.{rules}
-use Prim.Native.Nat.{ℕ, ◌+◌, ◌-◌, ◌≤◌}
 use mathlib.Core.Path.{◌≡◌, ◌∙◌, ap}
 use mathlib.Core.List.{List}
 use native.Mathlib.Omega.{arith}
@@ -18,8 +16,7 @@ bounds-regions-i c = c.loop-i-test.true
 pub loop-i-preserved : goal.loop-i-preserved
 loop-i-preserved c =
     let a = c.args in
-    let loop = c.loop-i in
- (
+    let loop = c.loop-i in (
       omega arith,
       ap (λ (g : List Region). set g loop.i c.kept_region.result) loop.invariant.1
           ∙ ap (set (regions_to a.marks.now a.s.regions loop.i) loop.i) c.kept_region.ensures

@@ -1,13 +1,7 @@
 -- `kept_regions`: slot after slot.
-use borrow.Author.Rules.{rules}
-use Prim.Native.Nat.{ℕ, ◌+◌, ◌-◌, ◌≤◌}
-use mathlib.Core.Path.{◌≡◌, ◌∙◌, ap}
-use mathlib.Core.List.{List}
-use native.Mathlib.Omega.{arith}
-use lib.ListN.{set}
-use Rattle.space.specs.declared.Region.{Region}
+use Prim.Native.Nat.{◌-◌, ◌≤◌}
+use mathlib.Core.Path.{◌≡◌}
 use Rattle.vmar_prune.specs.Prune.{regions_to}
-use Rattle.vmar_prune.proofs.Parts.{regions_none, regions_more}
 use Rattle.vmar_prune.proofs.kept_regions.Given as goal
 
 abbrev pub invariant-loop-i : goal.invariant-loop-i

@@ -1,5 +1,4 @@
 -- `least`: the lesser of two.
-use borrow.Author.Rules.{rules}
 use mathlib.Core.Path.{refl}
 use borrow.Author.Tests.{lt-ltb, le-ltb}
 use Rattle.scan.proofs.Picks.{on, off}

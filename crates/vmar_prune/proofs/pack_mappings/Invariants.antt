@@ -1,12 +1,9 @@
 -- `pack_mappings`: the places passed are packed.
-use borrow.Author.Rules.{rules}
-use Prim.Native.Nat.{ℕ, ◌+◌, ◌-◌, ◌≤◌}
-use mathlib.Core.Path.{◌≡◌, sym, ◌∙◌, ap}
-use native.Mathlib.Omega.{arith}
-use lib.ListN.{length, get_or}
+use Prim.Native.Nat.{◌-◌, ◌≤◌}
+use mathlib.Core.Path.{◌≡◌}
+use lib.ListN.{length}
 use Rattle.vmar_prune.specs.Prune.{packed, live_slots}
 use Rattle.vmar_prune.specs.Steps.{packed_of}
-use Rattle.vmar_prune.proofs.Parts.{packed_none, packed_turn, put_size}
 use Rattle.vmar_prune.proofs.pack_mappings.Given as goal
 
 abbrev pub invariant-loop-k : goal.invariant-loop-k

@@ -1,10 +1,7 @@
-use borrow.Author.Rules.{rules}
-use Prim.Native.Nat.{ℕ, ◌+◌, ◌-◌, ◌≤◌}
 use mathlib.Core.Path.{◌≡◌, sym, ◌∙◌, ap}
 use native.Mathlib.Omega.{arith}
-use lib.ListN.{length, get_or}
+use lib.ListN.{get_or}
 use Rattle.vmar_prune.specs.Prune.{packed, kept_slots}
-use Rattle.vmar_prune.specs.Steps.{packed_of}
 use Rattle.vmar_prune.proofs.Parts.{packed_none, packed_turn, put_size}
 use Rattle.vmar_prune.proofs.pack_regions.Goals as goal
 

@@ -1,9 +1,7 @@
 -- `page_at`: the byte, or 0 past the last.
-use borrow.Author.Rules.{rules}
 use mathlib.Core.Path.{refl}
 use borrow.Author.Tests.{lt-ltb, le-ltb}
 use Rattle.scan.proofs.Picks.{on, off}
-use borrow.Author.Rules.{rules}
 use Rattle.vmar_prune.proofs.page_at.Goals as goal
 
 pub returns-then-j-n : goal.returns-then-j-n

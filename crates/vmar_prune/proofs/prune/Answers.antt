@@ -1,8 +1,5 @@
 -- `prune`: the parts, put together.
-use borrow.Author.Rules.{rules}
-use Prim.Native.Nat.{ℕ, ◌+◌, ◌-◌, ◌*◌, ◌/◌, ◌≤◌, ◌<◌}
 use Rattle.vmar_prune.proofs.Parts.{pruned_made}
-use borrow.Author.Rules.{rules}
 use Rattle.vmar_prune.proofs.prune.Goals as goal
 
 pub returns : goal.returns

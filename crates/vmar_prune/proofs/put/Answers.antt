@@ -1,8 +1,6 @@
 -- `put`: one place more, or none.
-use borrow.Author.Rules.{rules}
 use mathlib.Core.Path.{refl}
 use Rattle.scan.proofs.Picks.{on, off}
-use borrow.Author.Rules.{rules}
 use Rattle.vmar_prune.proofs.put.Goals as goal
 
 pub returns-then-is_kept : goal.returns-then-is_kept

@@ -1,11 +1,8 @@
 -- `retain`: nothing moves where nothing was cut.
-use borrow.Author.Rules.{rules}
-use Prim.Native.Nat.{ℕ, ◌+◌, ◌-◌, ◌*◌, ◌/◌, ◌≤◌, ◌<◌}
-use mathlib.Core.Path.{sym, ◌∙◌, ap}
+use mathlib.Core.Path.{◌∙◌}
 use mathlib.Core.Logic.{inl}
 use native.Mathlib.Omega.{arith}
 use Rattle.vmar_prune.proofs.Parts.{retained_all, retained_part}
-use borrow.Author.Rules.{rules}
 use Rattle.vmar_prune.proofs.retain.Goals as goal
 
 pub returns-then-k-m : goal.returns-then-k-m

@@ -1,6 +1,5 @@
-use borrow.Author.Rules.{rules}
-use Prim.Native.Nat.{ℕ, ◌+◌, ◌-◌, ◌*◌, ◌/◌, ◌≤◌, ◌<◌}
-use mathlib.Core.Path.{◌≡◌, sym, ◌∙◌, ap}
+use Prim.Native.Nat.{ℕ}
+use mathlib.Core.Path.{◌≡◌, ◌∙◌, ap}
 use mathlib.Core.List.{List}
 use native.Mathlib.Omega.{arith}
 use lib.ListN.{length, get_or}
@@ -24,8 +23,7 @@ retain-requires c =
 pub loop-i-preserved : goal.loop-i-preserved
 loop-i-preserved c =
     let a = c.args in
-    let loop = c.loop-i in
- (
+    let loop = c.loop-i in (
       omega arith,
       c.retain.ensures
           ∙ ap (λ (f : List ℕ). retained (get_or a.old loop.i blank_mapping) (get_or a.new loop.i blank_mapping) f loop.i) loop.invariant.1

@@ -1,10 +1,7 @@
-use borrow.Author.Rules.{rules}
-use Prim.Native.Nat.{◌-◌, ◌≤◌}
-use mathlib.Core.Path.{◌≡◌, refl, sym, ◌∙◌}
+use mathlib.Core.Path.{refl, sym, ◌∙◌}
 use native.Mathlib.Omega.{arith}
-use Rattle.scan.specs.Scan.{first}
 use Rattle.scan.proofs.Scans.{first_here, first_later, first_none}
-use Rattle.vmar_prune.specs.Prune.{split_at, split_slot}
+use Rattle.vmar_prune.specs.Prune.{split_at}
 use Rattle.vmar_prune.proofs.Parts.{short_at}
 use Rattle.vmar_prune.proofs.split_slot.Goals as goal
 

@@ -1,12 +1,8 @@
 -- `split_slot`: the slots passed are not split.
-use borrow.Author.Rules.{rules}
 use Prim.Native.Nat.{◌-◌, ◌≤◌}
-use mathlib.Core.Path.{◌≡◌, refl, sym, ◌∙◌}
-use native.Mathlib.Omega.{arith}
+use mathlib.Core.Path.{◌≡◌}
 use Rattle.scan.specs.Scan.{first}
-use Rattle.scan.proofs.Scans.{first_here, first_later, first_none}
 use Rattle.vmar_prune.specs.Prune.{split_at, split_slot}
-use Rattle.vmar_prune.proofs.Parts.{short_at}
 use Rattle.vmar_prune.proofs.split_slot.Given as goal
 
 abbrev pub invariant-loop-i : goal.invariant-loop-i

@@ -2,7 +2,6 @@ use Prim.Native.Nat.{ℕ, ◌+◌, ◌-◌, ◌*◌, ◌/◌}
 use mathlib.Core.Path.{◌≡◌, sym, ap, ◌∙◌, subst}
 use mathlib.Core.Bool.{false}
 use native.Mathlib.Omega.{arith}
-use borrow.Author.Rules.{rules}
 use Rattle.paging.specs.Level.{index}
 use Rattle.paging.proofs.Levels.{index_lt}
 use Rattle.common.specs.declared.vm.PageSize.{PageSize}
@@ -46,11 +45,11 @@ overflow_sub-frame c =
     let read : (let a = c.args in c.entry_at.result ≡ word a.pool.now c.loop-entry.frame (index c.loop-entry.level a.vaddr)) = c.entry_at.ensures ∙ ap (word c.args.pool.now c.loop-entry.frame) c.index_at-place.ensures in
     let bare : (let a = c.args in is_leaf (word a.pool.now c.loop-entry.frame (index c.loop-entry.level a.vaddr)) ≡ false) = ap is_leaf (sym read) ∙ sym c.is_leaf.ensures ∙ c.if-is_leaf.false in
     let below : (let a = c.args in Next a.pool.now (a.base / 4096) a.used c.requires.formed a.vaddr c.loop-entry.level c.loop-entry.frame c.loop-entry.invariant) = let a = c.args in
-        let u = ap is_unused (sym read) ∙ sym c.is_unused.ensures ∙ c.if-is_unused.false in
-        next a.pool.now (a.base / 4096) a.used c.requires.formed a.vaddr c.loop-entry.level c.loop-entry.frame c.loop-entry.invariant bare u in
+    let u = ap is_unused (sym read) ∙ sym c.is_unused.ensures ∙ c.if-is_unused.false in
+    next a.pool.now (a.base / 4096) a.used c.requires.formed a.vaddr c.loop-entry.level c.loop-entry.frame c.loop-entry.invariant bare u in
     let reaches : c.addr.result ≡ c.args.base + below.g * 4096 = let n = below in
-        let f : frame_of c.entry_at.result ≡ c.args.base / 4096 + n.g = ap frame_of read ∙ n.frame in
-        omega (arith, c.addr.ensures, f, c.requires.sized.page) in
+    let f : frame_of c.entry_at.result ≡ c.args.base / 4096 + n.g = ap frame_of read ∙ n.frame in
+    omega (arith, c.addr.ensures, f, c.requires.sized.page) in
     omega (arith, reaches)
 
 pub overflow_sub-level : goal.overflow_sub-level
@@ -58,8 +57,8 @@ overflow_sub-level c =
     let read : (let a = c.args in c.entry_at.result ≡ word a.pool.now c.loop-entry.frame (index c.loop-entry.level a.vaddr)) = c.entry_at.ensures ∙ ap (word c.args.pool.now c.loop-entry.frame) c.index_at-place.ensures in
     let bare : (let a = c.args in is_leaf (word a.pool.now c.loop-entry.frame (index c.loop-entry.level a.vaddr)) ≡ false) = ap is_leaf (sym read) ∙ sym c.is_leaf.ensures ∙ c.if-is_leaf.false in
     let below : (let a = c.args in Next a.pool.now (a.base / 4096) a.used c.requires.formed a.vaddr c.loop-entry.level c.loop-entry.frame c.loop-entry.invariant) = let a = c.args in
-        let u = ap is_unused (sym read) ∙ sym c.is_unused.ensures ∙ c.if-is_unused.false in
-        next a.pool.now (a.base / 4096) a.used c.requires.formed a.vaddr c.loop-entry.level c.loop-entry.frame c.loop-entry.invariant bare u in
+    let u = ap is_unused (sym read) ∙ sym c.is_unused.ensures ∙ c.if-is_unused.false in
+    next a.pool.now (a.base / 4096) a.used c.requires.formed a.vaddr c.loop-entry.level c.loop-entry.frame c.loop-entry.invariant bare u in
     omega (arith, below.lower)
 
 pub loop-entry-smaller : goal.loop-entry-smaller
@@ -67,8 +66,8 @@ loop-entry-smaller c =
     let read : (let a = c.args in c.entry_at.result ≡ word a.pool.now c.loop-entry.frame (index c.loop-entry.level a.vaddr)) = c.entry_at.ensures ∙ ap (word c.args.pool.now c.loop-entry.frame) c.index_at-place.ensures in
     let bare : (let a = c.args in is_leaf (word a.pool.now c.loop-entry.frame (index c.loop-entry.level a.vaddr)) ≡ false) = ap is_leaf (sym read) ∙ sym c.is_leaf.ensures ∙ c.if-is_leaf.false in
     let below : (let a = c.args in Next a.pool.now (a.base / 4096) a.used c.requires.formed a.vaddr c.loop-entry.level c.loop-entry.frame c.loop-entry.invariant) = let a = c.args in
-        let u = ap is_unused (sym read) ∙ sym c.is_unused.ensures ∙ c.if-is_unused.false in
-        next a.pool.now (a.base / 4096) a.used c.requires.formed a.vaddr c.loop-entry.level c.loop-entry.frame c.loop-entry.invariant bare u in
+    let u = ap is_unused (sym read) ∙ sym c.is_unused.ensures ∙ c.if-is_unused.false in
+    next a.pool.now (a.base / 4096) a.used c.requires.formed a.vaddr c.loop-entry.level c.loop-entry.frame c.loop-entry.invariant bare u in
     omega (arith, below.lower)
 
 pub loop-entry-preserved : goal.loop-entry-preserved
@@ -76,11 +75,11 @@ loop-entry-preserved c =
     let read : (let a = c.args in c.entry_at.result ≡ word a.pool.now c.loop-entry.frame (index c.loop-entry.level a.vaddr)) = c.entry_at.ensures ∙ ap (word c.args.pool.now c.loop-entry.frame) c.index_at-place.ensures in
     let bare : (let a = c.args in is_leaf (word a.pool.now c.loop-entry.frame (index c.loop-entry.level a.vaddr)) ≡ false) = ap is_leaf (sym read) ∙ sym c.is_leaf.ensures ∙ c.if-is_leaf.false in
     let below : (let a = c.args in Next a.pool.now (a.base / 4096) a.used c.requires.formed a.vaddr c.loop-entry.level c.loop-entry.frame c.loop-entry.invariant) = let a = c.args in
-        let u = ap is_unused (sym read) ∙ sym c.is_unused.ensures ∙ c.if-is_unused.false in
-        next a.pool.now (a.base / 4096) a.used c.requires.formed a.vaddr c.loop-entry.level c.loop-entry.frame c.loop-entry.invariant bare u in
+    let u = ap is_unused (sym read) ∙ sym c.is_unused.ensures ∙ c.if-is_unused.false in
+    next a.pool.now (a.base / 4096) a.used c.requires.formed a.vaddr c.loop-entry.level c.loop-entry.frame c.loop-entry.invariant bare u in
     let reaches : c.addr.result ≡ c.args.base + below.g * 4096 = let n = below in
-        let f : frame_of c.entry_at.result ≡ c.args.base / 4096 + n.g = ap frame_of read ∙ n.frame in
-        omega (arith, c.addr.ensures, f, c.requires.sized.page) in
+    let f : frame_of c.entry_at.result ≡ c.args.base / 4096 + n.g = ap frame_of read ∙ n.frame in
+    omega (arith, c.addr.ensures, f, c.requires.sized.page) in
     let a = c.args in
     let n = below in
     let l : n.m ≡ c.loop-entry.level - 1 = omega (arith, n.lower) in

@@ -1,16 +1,6 @@
 -- `get_entry`: the loop stands where the walk of the address does, and stops where it ends.
-use Prim.Native.Nat.{ℕ, ◌+◌, ◌-◌, ◌*◌, ◌/◌}
-use mathlib.Core.Path.{◌≡◌, sym, ap, ◌∙◌, subst}
-use mathlib.Core.Bool.{false}
-use native.Mathlib.Omega.{arith}
-use borrow.Author.Rules.{rules}
-use Rattle.paging.specs.Level.{index}
-use Rattle.paging.proofs.Levels.{index_lt}
-use Rattle.common.specs.declared.vm.PageSize.{PageSize}
-use Rattle.x86_64.specs.Entry.{frame_of, is_unused, is_leaf}
-use Rattle.pool.specs.Pool.{word}
-use Rattle.walk.specs.declared.Walk.TheVariants.{Leaf, Open}
-use Rattle.walk.proofs.Steps.{Stands, stands_root, stop_leaf, stop_open, Next, next}
+use Prim.Native.Nat.{◌/◌}
+use Rattle.walk.proofs.Steps.{Stands}
 use Rattle.walk.proofs.get_entry.Given as goal
 
 abbrev pub invariant-loop-entry : goal.invariant-loop-entry

@@ -2,7 +2,6 @@
 use Prim.Native.Nat.{ℕ}
 use mathlib.Core.Path.{◌≡◌, sym, ap, ◌∙◌}
 use native.Mathlib.Omega.{arith}
-use borrow.Author.Rules.{rules}
 use Rattle.paging.specs.Level.{index}
 use Rattle.paging.proofs.Cases.{above_two}
 use Rattle.walk.proofs.index_at.Goals as goal

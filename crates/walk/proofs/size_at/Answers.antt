@@ -1,7 +1,6 @@
 -- `size_at`: levels above 2 are as 2.
 use Prim.Native.Nat.{ℕ, zero, suc}
 use mathlib.Core.Path.{◌≡◌, refl}
-use borrow.Author.Rules.{rules}
 use Rattle.common.specs.declared.vm.PageSize.TheVariants.{Size1G}
 use Rattle.walk.specs.Walk.{size_at}
 use Rattle.walk.proofs.size_at.Goals as goal

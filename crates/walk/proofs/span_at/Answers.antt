@@ -1,5 +1,4 @@
 -- `span_at`, by the level.
-use Prim.Native.Nat.{ℕ}
 use mathlib.Core.Path.{◌≡◌, sym, ap}
 use native.Mathlib.Omega.{arith}
 use Rattle.paging.specs.Level.{span}

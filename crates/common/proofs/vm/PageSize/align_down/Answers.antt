@@ -3,7 +3,6 @@ use Prim.Native.Nat.{ℕ, ◌-◌, ◌^◌}
 use mathlib.Core.Path.{◌≡◌, ap, ◌∙◌}
 use native.Mathlib.Omega.{arith}
 use lib.Bits.{bit_and}
-use borrow.Author.Rules.{rules}
 use Rattle.common.specs.Page.{size_of}
 use Rattle.common.proofs.Pages.{size_pos, mask_high}
 use Rattle.common.proofs.vm.PageSize.align_down.Goals as goal

@@ -3,7 +3,6 @@ use Prim.Native.Nat.{ℕ, ◌-◌}
 use mathlib.Core.Path.{ap, ◌∙◌}
 use native.Mathlib.Omega.{arith}
 use lib.Bits.{bit_and}
-use borrow.Author.Rules.{rules}
 use Rattle.common.proofs.Pages.{size_pos, mask_low}
 use Rattle.common.proofs.vm.PageSize.page_offset.Goals as goal
 

@@ -4,7 +4,6 @@ use mathlib.Core.Path.{◌≡◌, sym, ◌∙◌}
 use mathlib.Core.Bool.{Bool, true, false, ◌&&◌}
 use native.Mathlib.Omega.{arith}
 use lib.Dec.{eqb}
-use borrow.Author.Rules.{rules}
 use Rattle.paging.specs.Choice.{Decided}
 use Rattle.paging.specs.Format.{Entry}
 use Rattle.paging.proofs.Cases.{above_two}

@@ -3,7 +3,6 @@ use Prim.Native.Nat.{ℕ}
 use mathlib.Core.Path.{◌≡◌, ap, ◌∙◌}
 use native.Mathlib.Omega.{arith}
 use lib.Dec.{eqb}
-use borrow.Author.Rules.{rules}
 use Rattle.x86_64.specs.Entry.{frame_of}
 use Rattle.x86_64.proofs.Words.{frame_again}
 use Rattle.x86_64.proofs.vm.X86PTE.is_table.Goals as goal

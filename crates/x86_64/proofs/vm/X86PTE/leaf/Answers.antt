@@ -1,9 +1,8 @@
 -- `X86PTE::leaf`: an unused entry has no address of its own.
-use Prim.Native.Nat.{ℕ, ◌-◌, ◌*◌}
+use Prim.Native.Nat.{ℕ, ◌*◌}
 use mathlib.Core.Path.{◌≡◌, ap, ◌∙◌}
 use mathlib.Core.Bool.{Bool}
 use native.Mathlib.Omega.{arith}
-use borrow.Author.Rules.{rules}
 use Rattle.common.specs.Page.{is_huge}
 use Rattle.x86_64.specs.Entry.{addr_of, leaf_by}
 use Rattle.x86_64.proofs.Words.{frame_again}

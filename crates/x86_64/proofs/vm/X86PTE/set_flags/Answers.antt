@@ -1,6 +1,5 @@
 -- `X86PTE::set_flags`: address, rights and bit 7 do not meet, so the sum fits.
 use native.Mathlib.Omega.{arith}
-use borrow.Author.Rules.{rules}
 use Rattle.x86_64.proofs.Words.{rights_lt, huge_le}
 use Rattle.x86_64.proofs.vm.X86PTE.set_flags.Goals as goal
 
