@@ -1,6 +1,6 @@
 -- What a range call tells is told of one outcome alone, so that a promise fixes the outcome itself.
 use Prim.Native.Nat.{ℕ}
-use mathlib.Core.Path.{◌≡◌, sym, ap}
+use mathlib.Core.Path.{sym, ap}
 use mathlib.Core.List.{List, head-eq_of_cons-eq}
 use Rattle.paging.specs.Choice.{Answered}
 use Rattle.paging.proofs.Cases.{OneToOne, answered_by}

@@ -1,6 +1,6 @@
 -- The calls by what their tests show.
 use Prim.Native.Nat.{ℕ, ◌/◌}
-use mathlib.Core.Path.{◌≡◌, refl, sym, ◌∙◌}
+use mathlib.Core.Path.{◌≡◌}
 use mathlib.Core.Bool.{true, false}
 use mathlib.Core.List.{List}
 use lib.Dec.{ltb, eqb}

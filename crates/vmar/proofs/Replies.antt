@@ -1,6 +1,6 @@
 -- What a call on a space tells is told of one outcome alone, so that a promise fixes the outcome itself.
 use Prim.Native.Nat.{ℕ, ◌/◌}
-use mathlib.Core.Path.{◌≡◌, refl, sym, ap}
+use mathlib.Core.Path.{refl, sym, ap}
 use mathlib.Core.Bool.{Bool}
 use mathlib.Core.List.{List, head-eq_of_cons-eq}
 use Rattle.paging.specs.Choice.{Answered}

@@ -1,11 +1,9 @@
 -- What a call answers on a space that passes its check and a good pool: the laws of its core, read off its promise.
-use Prim.Native.Nat.{ℕ, ◌+◌, ◌/◌, ◌≤◌, ◌<◌}
-use mathlib.Core.Path.{◌≡◌, refl, sym, ◌∙◌, ap, subst}
-use mathlib.Core.Bool.{Bool, true, false}
+use Prim.Native.Nat.{ℕ, ◌/◌, ◌≤◌, ◌<◌}
+use mathlib.Core.Path.{◌≡◌, refl, sym, subst}
+use mathlib.Core.Bool.{true}
 use mathlib.Core.List.{List}
-use mathlib.Core.Logic.{◌⊎◌, ⊎_elim}
-use native.Mathlib.Omega.{arith}
-use lib.Dec.{ltb, eqb}
+use mathlib.Core.Logic.{⊎_elim}
 use borrow.Author.Tests.{lt-ltb, le-ltb, eq-eqb, ne_eqb}
 use Rattle.paging.specs.Choice.{Answered, refused, taken}
 use Rattle.paging.proofs.Cases.{same?, below?}
@@ -16,7 +14,6 @@ use Rattle.space.specs.Arrays.{Arrays}
 use Rattle.space.specs.declared.Space.{Space}
 use Rattle.table.specs.Table.{queried}
 use Rattle.vmar_offset.specs.Offset.{slot_of}
-use Rattle.vmar_offset.specs.declared.Offset.{Offset}
 use Rattle.vmar_offset.proofs.Found.{slot_live}
 use Rattle.vmar_allocate.specs.Allocate.{allocated}
 use Rattle.vmar_allocate.specs.declared.Allocation.{Allocation}
@@ -25,11 +22,10 @@ use Rattle.vmar_laws.specs.Answers.{AllocateAnswers, MapAnswers}
 use Rattle.vmar_laws.proofs.Allocates.{allocates}
 use Rattle.vmar_laws.proofs.Maps.{maps}
 use Rattle.vmar_lookup.specs.Laws.{FlagsAnswers, of_page}
-use Rattle.vmar_lookup.specs.Lookup.{answered, mapping_flags, vaddr_flags}
+use Rattle.vmar_lookup.specs.Lookup.{answered}
 use Rattle.vmar_lookup.specs.declared.FlagsResult.{FlagsResult}
 use Rattle.vmar_lookup.proofs.Laws.{lookups}
-use Rattle.vmar_map.specs.declared.MapExtResult.{MapExtResult}
-use Rattle.vmar_overwrite.specs.Overwrite.{OverwriteDone, overwritten}
+use Rattle.vmar_overwrite.specs.Overwrite.{OverwriteDone}
 use Rattle.vmar_overwrite_laws.specs.Answers.{OverwriteAnswers}
 use Rattle.vmar_overwrite_laws.proofs.Overwrites.{overwrites}
 use Rattle.vmar_protect_laws.specs.Answers.{ProtectAnswers}
@@ -44,29 +40,7 @@ use Rattle.vmar_unmap_laws.proofs.Clears.{clears}
 use Rattle.vmar_user_range.specs.Laws.{UserRangeAnswers}
 use Rattle.vmar_user_range.specs.UserRange.{user_range}
 use Rattle.vmar_user_range.proofs.Laws.{user_ranges}
-use Rattle.vmar.specs.Calls.{
-  FlagsDone,
-  UserRangeDone,
-  ProtectedDone,
-  Ordered,
-  bad_space,
-  bad_table,
-  done,
-  looked,
-  seen,
-  kept,
-  flags_call,
-  vaddr_call,
-  map_ext,
-  before,
-  FlagsFit,
-  VaddrFits,
-  UserRangeFits,
-  MapExtFits,
-  UnmapFits,
-  ClearFits,
-  ProtectFits,
-}
+use Rattle.vmar.specs.Calls.{FlagsDone, UserRangeDone, ProtectedDone, Ordered, bad_space, bad_table, done, looked, seen, kept, flags_call, vaddr_call, map_ext, before, FlagsFit, VaddrFits}
 use Rattle.vmar.specs.Laws.{LookupAnswers, unissued, dead, alive, Tells}
 use Rattle.vmar.proofs.Parts.{flags_unissued, flags_dead, flags_alive, vaddr_unissued, vaddr_dead, vaddr_alive}
 use Rattle.vmar.proofs.Replies.{allocate_once, map_once, flags_once, user_once, ext_once, cut_once, protect_once}

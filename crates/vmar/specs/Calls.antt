@@ -1,6 +1,6 @@
 -- The calls on a space, whole. Document 01, 'Refusal numbers': "Order: 12, 13, 11, ..", "Only what is taken is tested"; "A refusal gives value 0 and changes nothing
 -- anywhere". The cores' definitions (vmar_allocate, vmar_map, vmar_overwrite, vmar_unmap, vmar_protect, vmar_lookup, vmar_user_range) go from 11 on; last, the promises, where 12 and 13 go by Passes and Good.
-use Rattle.std.specs.Prelude.{ℕ, ◌/◌, ◌≡◌, Bool, true, List, ltb, eqb}
+use Rattle.std.specs.Prelude.{ℕ, ◌/◌, ◌≡◌, Bool, List, ltb, eqb}
 use Rattle.paging.specs.Choice.{pick, Answered}
 use Rattle.refusal.specs.Reply.{Told, refused}
 use Rattle.refusal.specs.declared.Refusal.TheVariants.{BadState, BadHandle}

@@ -15,13 +15,13 @@ use Rattle.space.specs.Space.{mapping_at}
 use Rattle.space.specs.Passes.{Passes}
 use Rattle.space.specs.declared.Mapping.{Mapping}
 use Rattle.space.specs.declared.Space.{Space}
-use Rattle.vmar_doom.specs.Doomed.{Doomed, child, below}
+use Rattle.vmar_doom.specs.Doomed.{Doomed, child}
 use Rattle.table_cuts.specs.Cuts.{Cut, Fits, Among, cut_all, non_empty}
 use Rattle.table_cuts.specs.Laws.{AllCut}
 use Rattle.table_cuts.proofs.All.{cuts}
 use Rattle.vmar_cuts.specs.Cuts.{END, whole, part, parts, children, unmap_cuts, destroy_cuts, PageRange}
 use Rattle.vmar_cuts.specs.Laws.{OwnPart, WholeOf, Destroyed, UnmapCuts, DestroyCuts, Lies, UnmapLeaves, DestroyLeaves, RegionCutsHold}
-use Rattle.vmar_cuts.proofs.Parts.{meets, meets_of, part_fits, mapping_fits}
+use Rattle.vmar_cuts.proofs.Parts.{meets_of, part_fits, mapping_fits}
 use Rattle.vmar_cuts.proofs.Members.{in_left, in_right, in_either}
 use Rattle.vmar_cuts.proofs.Apart.{off_flip, distinct_append}
 use Rattle.vmar_cuts.proofs.Below.{any_child, reaches_all}

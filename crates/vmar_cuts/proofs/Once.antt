@@ -11,7 +11,7 @@ use Rattle.space.specs.Passes.{Passes}
 use Rattle.space.specs.declared.Space.{Space}
 use Rattle.space.proofs.Facts.{region_place_lem, mapping_in}
 use Rattle.vmar_offset.specs.Offset.{mapping_meets}
-use Rattle.vmar_doom.specs.Doomed.{is_child_in, Doomed, below}
+use Rattle.vmar_doom.specs.Doomed.{is_child_in, Doomed}
 use Rattle.table_cuts.specs.Cuts.{Cut, Among}
 use Rattle.vmar_cuts.specs.Cuts.{END, part, part_at, parts, child_at, children}
 use Rattle.vmar_cuts.specs.Laws.{OwnPart, WholeOf, Off, Distinct, none, next, Destroyed}

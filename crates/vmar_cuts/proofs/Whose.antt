@@ -12,7 +12,7 @@ use Rattle.space.specs.declared.Mapping.{Mapping}
 use Rattle.space.specs.declared.Space.{Space}
 use Rattle.space.proofs.Facts.{region_place_lem, mapping_place_lem}
 use Rattle.vmar_offset.specs.Offset.{mapping_meets}
-use Rattle.vmar_doom.specs.Doomed.{is_child_in, Doomed, child, below}
+use Rattle.vmar_doom.specs.Doomed.{is_child_in, Doomed, child}
 use Rattle.table_cuts.specs.Cuts.{Cut, Fits, Among}
 use Rattle.vmar_cuts.specs.Cuts.{END, whole, part, part_of, part_at, parts, child_at, children}
 use Rattle.vmar_cuts.specs.Laws.{OwnPart, WholeOf}

@@ -1,11 +1,10 @@
 -- How a cut ends, and that the list of mappings has room for one more after it.
 use Prim.Native.Nat.{ℕ, zero, suc, ◌+◌, ◌-◌, ◌*◌, ◌≤◌, ◌<◌}
 use mathlib.Core.Path.{◌≡◌, refl, sym, ◌∙◌, ap, subst}
-use mathlib.Core.Bool.{Bool, true, false, not}
+use mathlib.Core.Bool.{Bool, true, false}
 use mathlib.Core.List.{List}
 use mathlib.Core.Logic.{⊎_elim}
 use native.Mathlib.Omega.{arith}
-use native.Mathlib.Nat.{eq-or-lt_of_le}
 use lib.Dec.{leb, ltb}
 use lib.ListN.{get_or}
 use borrow.Author.Tests.{lt-ltb, le-ltb, leb-false, ltb-false, not-true}
@@ -13,7 +12,7 @@ use Rattle.paging.specs.Choice.{pick}
 use Rattle.paging.proofs.Cases.{below?, no_truth, clash}
 use Rattle.refusal.specs.declared.Refusal.{Refusal}
 use Rattle.refusal.specs.declared.Refusal.TheVariants.{InvalidArgs, NoFrames, NoSlot, ChildDead}
-use Rattle.scan.specs.Scan.{first, first_of, some}
+use Rattle.scan.specs.Scan.{first, some}
 use Rattle.scan.proofs.Scans.{tell, first_of_is, first_of_from, first_of_before}
 use Rattle.scan.proofs.Pigeons.{fewer}
 use Rattle.space.specs.Space.{is_mapping, mapping_at, mapping_place}

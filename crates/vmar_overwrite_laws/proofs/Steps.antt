@@ -1,12 +1,11 @@
 -- The cut space has the new mapping's slot free, and nothing of the region in the range; what stays through the cut stays when the mapping is added.
 use Prim.Native.Nat.{ℕ, ◌+◌, ◌-◌, ◌/◌, ◌%◌, ◌≤◌, ◌<◌}
 use mathlib.Core.Path.{◌≡◌, refl, sym, ◌∙◌, ap, subst}
-use mathlib.Core.Bool.{Bool, true, false, not}
+use mathlib.Core.Bool.{Bool, true, false}
 use mathlib.Core.List.{List}
 use mathlib.Core.Logic.{◌⊎◌, inl, inr, ⊎_elim}
 use native.Mathlib.Omega.{arith}
 use lib.ListN.{get_or}
-use borrow.Author.Tests.{eq-eqb}
 use Rattle.paging.proofs.Cases.{below?, clash, no_truth, decided_false}
 use Rattle.scan.specs.Scan.{some}
 use Rattle.scan.proofs.Scans.{tell, none_passes}

@@ -8,7 +8,7 @@ use Rattle.std.specs.Prelude.{ℕ, ◌+◌, ◌-◌, ◌/◌, ◌%◌, ◌≤◌
 use Rattle.common.specs.Flags.{grants, rights}
 use Rattle.form.specs.Form.{Good}
 use Rattle.refusal.specs.declared.Refusal.{Refusal}
-use Rattle.space.specs.Range.{overlap, inside, contains}
+use Rattle.space.specs.Range.{overlap, contains}
 use Rattle.space.specs.Space.{region_at, mapping_at, is_region, is_mapping, mapping_place}
 use Rattle.space.specs.Passes.{Passes, page_at}
 use Rattle.space.specs.Arrays.{Arrays}

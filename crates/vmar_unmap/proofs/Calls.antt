@@ -1,15 +1,14 @@
 -- The calls by what their tests show.
-use Prim.Native.Nat.{ℕ, zero, ◌+◌, ◌-◌, ◌*◌, ◌/◌, ◌%◌, ◌≤◌, ◌<◌}
-use mathlib.Core.Path.{◌≡◌, refl, sym, ◌∙◌, ap, subst}
+use Prim.Native.Nat.{ℕ, ◌+◌, ◌-◌, ◌*◌, ◌/◌, ◌%◌, ◌≤◌, ◌<◌}
+use mathlib.Core.Path.{◌≡◌, sym, ◌∙◌, ap}
 use mathlib.Core.Bool.{Bool, true, false, not}
 use mathlib.Core.List.{List}
-use mathlib.Core.Logic.{◌⊎◌, inl, inr, ⊎_elim}
+use mathlib.Core.Logic.{⊎_elim}
 use native.Mathlib.Omega.{arith}
 use lib.Dec.{eqb, leb, ltb}
-use lib.ListN.{length}
-use borrow.Author.Tests.{lt-ltb, le-ltb, ltb-true, eq-eqb, ne_eqb, eqb-true}
+use borrow.Author.Tests.{lt-ltb, le-ltb, eq-eqb, ne_eqb, eqb-true}
 use Rattle.paging.specs.Choice.{pick}
-use Rattle.paging.proofs.Cases.{below?, same?, no_truth, clash}
+use Rattle.paging.proofs.Cases.{same?, no_truth}
 use Rattle.refusal.specs.declared.Refusal.TheVariants.{InvalidArgs, BadState, NoFrames, NoSlot, BadHandle, ChildDead}
 use Rattle.scan.specs.Scan.{some}
 use Rattle.scan.proofs.Scans.{tell, first_passes, first_most}
@@ -19,7 +18,6 @@ use Rattle.space.specs.Space.{mapping_at}
 use Rattle.space.specs.declared.Mapping.{Mapping}
 use Rattle.space.specs.declared.Region.{Region}
 use Rattle.space.specs.declared.Space.{Space}
-use Rattle.table_split.specs.Split.{Tables}
 use Rattle.table_cuts.specs.Cuts.{Cut, cut_all, non_empty}
 use Rattle.vmar_offset.specs.Offset.{slot_of, is_free_mapping, free_mapping, child_meets}
 use Rattle.vmar_doom.specs.Doomed.{marked}

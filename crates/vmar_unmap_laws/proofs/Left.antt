@@ -6,7 +6,7 @@ use mathlib.Core.List.{List}
 use mathlib.Core.Logic.{inl, inr, ⊎_elim}
 use native.Mathlib.Omega.{arith}
 use lib.ListN.{get_or}
-use borrow.Author.Tests.{not-true, eq-eqb}
+use borrow.Author.Tests.{not-true}
 use Rattle.paging.specs.Level.{Canonical}
 use Rattle.paging.proofs.Cases.{clash, no_truth}
 use Rattle.scan.proofs.Scans.{tell, before_first}

@@ -12,7 +12,7 @@ use Rattle.common.specs.Flags.{USER, known_page, grants}
 use Rattle.scan.proofs.Scans.{tell}
 use Rattle.refusal.specs.declared.Refusal.{Refusal}
 use Rattle.refusal.specs.declared.Refusal.TheVariants.{InvalidArgs, AccessDenied, NotFound, BadState, BadHandle}
-use Rattle.space.specs.Space.{mapping_at, is_region}
+use Rattle.space.specs.Space.{is_region}
 use Rattle.space.specs.Passes.{Passes, page_at}
 use Rattle.space.specs.declared.Space.{Space}
 use Rattle.space.proofs.Ranges as ranges

@@ -1,23 +1,22 @@
 -- A stretch of pages in one mapping: what each of them allows stands in the mapping's flags.
-use Prim.Native.Nat.{ℕ, ◌+◌, ◌-◌, ◌*◌, ◌/◌, ◌%◌, ◌^◌, ◌≤◌, ◌<◌}
+use Prim.Native.Nat.{ℕ, ◌+◌, ◌-◌, ◌*◌, ◌/◌, ◌%◌, ◌≤◌, ◌<◌}
 use mathlib.Core.Path.{◌≡◌, refl, sym, ◌∙◌, ap, subst}
 use mathlib.Core.Bool.{Bool, true, false}
 use mathlib.Core.List.{List}
-use mathlib.Core.Logic.{◌⊎◌, inl, inr, ⊎_elim}
+use mathlib.Core.Logic.{⊎_elim}
 use native.Mathlib.Omega.{arith}
 use lib.Bits.{bit_and, bit_xor, and_high}
-use lib.Dec.{eqb, ltb}
+use lib.Dec.{eqb}
 use lib.ListN.{get_or}
 use borrow.Author.Tests.{lt-ltb, le-ltb, eq-eqb, eqb-true}
-use Rattle.paging.specs.Choice.{pick}
 use Rattle.paging.proofs.Cases.{below?, no_truth, clash}
 use Rattle.common.specs.Flags.{has, USER, HUGE_PAGE, grants}
 use Rattle.refusal.specs.declared.Refusal.TheVariants.{AccessDenied, NotFound}
 use Rattle.scan.proofs.Gather.{xor_same, xor_of}
 use Rattle.scan.proofs.Scans.{tell, before_first}
 use Rattle.space.specs.Range.{contains}
-use Rattle.space.specs.Space.{region_at, mapping_at, is_region, is_mapping}
-use Rattle.space.specs.Passes.{Passes, LiveIn, others, page_at}
+use Rattle.space.specs.Space.{region_at, mapping_at, is_region}
+use Rattle.space.specs.Passes.{Passes, others, page_at}
 use Rattle.space.specs.declared.Mapping.{Mapping}
 use Rattle.space.specs.declared.Space.{Space}
 use Rattle.space.proofs.Ranges as ranges
@@ -29,7 +28,7 @@ use Rattle.vmar_lookup.proofs.Laws.{lookups}
 use Rattle.scan.specs.Scan.{first}
 use Rattle.vmar_user_range.specs.UserRange.{allows, judged, start_of, verdict, checked_to, is_held, AllGrant, PageOf, pages_in, Tested, no_user, denied, granted}
 use Rattle.vmar_user_range.specs.declared.UserRangeResult.{UserRangeResult}
-use Rattle.vmar_user_range.specs.declared.UserRangeResult.TheVariants.{Allowed, Refused}
+use Rattle.vmar_user_range.specs.declared.UserRangeResult.TheVariants.{Refused}
 use Rattle.vmar_user_range.specs.declared.Stretch.{Stretch}
 use Rattle.vmar_user_range.specs.declared.Stretch.TheVariants as stretch
 use Rattle.vmar_user_range.proofs.Runs.{on_to, stops_at, stops_here}

@@ -1,7 +1,6 @@
 -- `is_page_aligned`: the start, then the size.
 use mathlib.Core.Path.{◌≡◌, sym, ◌∙◌}
 use mathlib.Core.Bool.{true, false}
-use borrow.Author.Rules.{rules}
 use borrow.Author.Tests.{not-true, not-false}
 use Rattle.common.specs.Page.{aligned}
 use Rattle.common.specs.declared.vm.PageSize.TheVariants.{Size4K}

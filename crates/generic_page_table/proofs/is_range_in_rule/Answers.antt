@@ -1,10 +1,9 @@
 -- `is_range_in_rule`: the start, and what is left of its part.
-use Prim.Native.Nat.{ℕ, ◌-◌, ◌≤◌}
+use Prim.Native.Nat.{ℕ, ◌-◌}
 use mathlib.Core.Path.{◌≡◌, sym, ap, ◌∙◌}
 use mathlib.Core.Bool.{true}
 use native.Mathlib.Omega.{arith}
 use lib.Dec.{leb}
-use borrow.Author.Rules.{rules}
 use borrow.Author.Tests.{not-true, not-false}
 use Rattle.page_table.specs.Calls.{in_rule}
 use Rattle.generic_page_table.specs.Rules.{rule_end}

@@ -2,7 +2,6 @@
 use Prim.Native.Nat.{◌+◌}
 use mathlib.Core.Path.{◌≡◌, ◌∙◌, sym, ap}
 use native.Mathlib.Omega.{arith}
-use borrow.Author.Rules.{rules}
 use Rattle.table_unmap_cont.specs.declared.UnmapContResult.{UnmapContResult}
 use Rattle.table_cuts.specs.Cuts.{taken}
 use Rattle.table_cuts.proofs.One.{answer_is, answer_good}

@@ -1,11 +1,9 @@
 -- `flags_in`: 11, 5, the lookup.
 use mathlib.Core.Path.{sym, ◌∙◌, subst}
 use borrow.Author.Tests.{eq-eqb, ne_eqb, lt-ltb, le-ltb}
-use Rattle.paging.specs.Choice.{taken}
 use Rattle.space.specs.Passes.{LiveIn}
 use Rattle.vmar_offset.proofs.Found.{slot_live}
 use Rattle.vmar.proofs.Parts.{flags_unissued, flags_dead, flags_alive}
-use borrow.Author.Rules.{rules}
 use Rattle.vmar.proofs.flags_in.Goals as goal
 
 pub returns-then-s-id : goal.returns-then-s-id

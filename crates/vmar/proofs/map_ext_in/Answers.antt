@@ -1,11 +1,8 @@
 -- `map_ext_in`: the half that is asked for.
-use borrow.Author.Rules.{rules}
 use mathlib.Core.Path.{ap}
 use Rattle.scan.proofs.Picks.{on, off}
-use Rattle.vmar_map.specs.Map.{MapDone}
 use Rattle.vmar_unmap.specs.Unmap.{State}
 use Rattle.vmar.specs.Calls.{beside_table}
-use borrow.Author.Rules.{rules}
 use Rattle.vmar.proofs.map_ext_in.Goals as goal
 
 pub returns-then-overwrite : goal.returns-then-overwrite

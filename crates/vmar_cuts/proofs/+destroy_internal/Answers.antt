@@ -1,18 +1,14 @@
-use Prim.Native.Nat.{ℕ, ◌-◌, ◌/◌, ◌≤◌}
-use mathlib.Core.Path.{◌≡◌, refl, sym, ◌∙◌, ap}
+use Prim.Native.Nat.{◌/◌}
+use mathlib.Core.Path.{refl, sym, ◌∙◌, ap}
 use mathlib.Core.List.{List}
 use native.Mathlib.Omega.{arith}
-use lib.ListN.{length}
 use borrow.Author.Rules.{rules}
 use borrow.Author.Tests.{not-true, not-false}
-use Rattle.form.specs.Form.{Good}
 use Rattle.space.proofs.Facts.{region_place_lem}
 use Rattle.table_cuts.specs.Cuts.{Cut, cut_all}
 use Rattle.table_cuts.proofs.Append.{cut_none}
-use Rattle.vmar_cuts.specs.Cuts.{collect, children}
 use Rattle.vmar_cuts.proofs.Collects.{cuts_more, cuts_end}
 use Rattle.vmar_cuts.proofs.Children.{everything, below, no_depth, all_left, cut_no_child, cut_child}
-use Prim.Native.Nat.{ℕ, ◌<◌}
 use Rattle.vmar_cuts.proofs.+destroy_internal.Goals as goal
 
 pub returns-then-depth-eq0 : goal.returns-then-depth-eq0

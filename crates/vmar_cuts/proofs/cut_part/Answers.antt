@@ -2,7 +2,6 @@
 use mathlib.Core.Path.{sym, ◌∙◌}
 use native.Mathlib.Omega.{arith}
 use borrow.Author.Tests.{not-true, not-false}
-use borrow.Author.Rules.{rules}
 use Rattle.vmar_cuts.proofs.Parts.{fits_end, ends, part_fits, fits_met, cut_passed, cut_met}
 use Rattle.vmar_cuts.proofs.cut_part.Goals as goal
 

@@ -1,13 +1,11 @@
-use Prim.Native.Nat.{◌-◌, ◌/◌, ◌≤◌}
-use mathlib.Core.Path.{◌≡◌, refl, ◌∙◌, ap}
+use Prim.Native.Nat.{◌/◌}
+use mathlib.Core.Path.{refl, ◌∙◌, ap}
 use mathlib.Core.List.{List}
 use native.Mathlib.Omega.{arith}
-use lib.ListN.{length}
 use borrow.Author.Rules.{rules}
-use Rattle.form.specs.Form.{Good}
 use Rattle.space.proofs.Facts.{mapping_place_lem}
 use Rattle.table_cuts.specs.Cuts.{Cut, cut_all}
-use Rattle.vmar_cuts.specs.Cuts.{collect, part_at, parts}
+use Rattle.vmar_cuts.specs.Cuts.{part_at}
 use Rattle.vmar_cuts.proofs.Collects.{collect_start, cuts_more, cuts_end}
 use Rattle.vmar_cuts.proofs.Parts.{place_fits}
 use Rattle.vmar_cuts.proofs.cut_parts.Goals as goal

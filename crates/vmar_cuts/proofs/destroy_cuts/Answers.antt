@@ -2,7 +2,6 @@
 use Rattle.vmar_cuts.specs.Cuts.{END, parts, children}
 use Rattle.vmar_cuts.proofs.Collects.{both_cut}
 use Rattle.vmar_cuts.proofs.Children.{everything}
-use borrow.Author.Rules.{rules}
 use Rattle.vmar_cuts.proofs.destroy_cuts.Goals as goal
 
 pub destroy_internal-below-requires : goal.destroy_internal-below-requires

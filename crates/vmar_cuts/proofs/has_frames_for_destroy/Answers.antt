@@ -2,7 +2,6 @@
 use Rattle.vmar_cuts.specs.Cuts.{END, parts, children}
 use Rattle.vmar_cuts.proofs.Collects.{both_room}
 use Rattle.vmar_cuts.proofs.Children.{everything}
-use borrow.Author.Rules.{rules}
 use Rattle.vmar_cuts.proofs.has_frames_for_destroy.Goals as goal
 
 pub room_in_children-below-requires : goal.room_in_children-below-requires

@@ -1,7 +1,6 @@
 -- `has_frames_for_unmap`: what is left of the room after all non-empty cuts.
 use Rattle.vmar_cuts.specs.Cuts.{parts, children}
 use Rattle.vmar_cuts.proofs.Collects.{both_room}
-use borrow.Author.Rules.{rules}
 use Rattle.vmar_cuts.proofs.has_frames_for_unmap.Goals as goal
 
 pub returns : goal.returns

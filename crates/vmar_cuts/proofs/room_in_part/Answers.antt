@@ -2,7 +2,6 @@
 use mathlib.Core.Path.{sym, ◌∙◌}
 use native.Mathlib.Omega.{arith}
 use borrow.Author.Tests.{not-true, not-false}
-use borrow.Author.Rules.{rules}
 use Rattle.vmar_cuts.proofs.Parts.{fits_end, count_passed, count_empty, count_some}
 use Rattle.vmar_cuts.proofs.room_in_part.Goals as goal
 

@@ -1,11 +1,10 @@
-use Prim.Native.Nat.{◌-◌, ◌≤◌}
-use mathlib.Core.Path.{◌≡◌, ◌∙◌, ap}
+use Prim.Native.Nat.{◌-◌}
+use mathlib.Core.Path.{◌∙◌, ap}
 use mathlib.Core.List.{List}
 use native.Mathlib.Omega.{arith}
-use borrow.Author.Rules.{rules}
 use Rattle.space.proofs.Facts.{mapping_place_lem}
 use Rattle.table_cuts.specs.Cuts.{Cut, non_empty}
-use Rattle.vmar_cuts.specs.Cuts.{collect, part_at, parts}
+use Rattle.vmar_cuts.specs.Cuts.{part_at}
 use Rattle.vmar_cuts.proofs.Collects.{collect_start, room_more, room_end}
 use Rattle.vmar_cuts.proofs.Parts.{place_fits}
 use Rattle.vmar_cuts.proofs.room_in_parts.Goals as goal

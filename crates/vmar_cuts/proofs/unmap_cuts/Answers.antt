@@ -1,7 +1,6 @@
 -- `unmap_cuts`: the region's own mappings first, then what is below.
 use Rattle.vmar_cuts.specs.Cuts.{parts, children}
 use Rattle.vmar_cuts.proofs.Collects.{both_cut}
-use borrow.Author.Rules.{rules}
 use Rattle.vmar_cuts.proofs.unmap_cuts.Goals as goal
 
 pub returns : goal.returns

@@ -1,5 +1,4 @@
 -- `after_cut`: the mapping, or the refusal.
-use borrow.Author.Rules.{rules}
 use Prim.Native.Nat.{ℕ}
 use mathlib.Core.Path.{◌∙◌, ap}
 use Rattle.vmar_overwrite.specs.declared.OverwriteOutcome.{OverwriteOutcome}

@@ -1,7 +1,4 @@
-use borrow.Author.Rules.{rules}
-use Prim.Native.Nat.{◌-◌}
-use mathlib.Core.Path.{◌≡◌, refl, sym, ◌∙◌}
-use Rattle.scan.specs.Scan.{first}
+use mathlib.Core.Path.{refl, sym, ◌∙◌}
 use Rattle.scan.proofs.Scans.{first_here, first_later, first_none}
 use Rattle.vmar_offset.specs.Offset.{is_free_mapping}
 use Rattle.vmar_overwrite.proofs.free_from.Goals as goal

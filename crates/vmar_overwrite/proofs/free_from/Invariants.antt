@@ -1,9 +1,7 @@
 -- `free_from`: the slots passed are live.
-use borrow.Author.Rules.{rules}
 use Prim.Native.Nat.{◌-◌}
-use mathlib.Core.Path.{◌≡◌, refl, sym, ◌∙◌}
+use mathlib.Core.Path.{◌≡◌}
 use Rattle.scan.specs.Scan.{first}
-use Rattle.scan.proofs.Scans.{first_here, first_later, first_none}
 use Rattle.vmar_offset.specs.Offset.{is_free_mapping}
 use Rattle.vmar_overwrite.proofs.free_from.Given as goal
 

@@ -1,5 +1,4 @@
 -- `map_overwrite`: 11, unknown flags, the first tests, then the region.
-use borrow.Author.Rules.{rules}
 use mathlib.Core.Path.{sym, ◌∙◌, ap}
 use borrow.Author.Tests.{lt-ltb, le-ltb, not-true, not-false}
 use Rattle.vmar_unmap.specs.Unmap.{State}

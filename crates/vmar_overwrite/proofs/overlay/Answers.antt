@@ -1,5 +1,4 @@
 -- `overlay`: nothing is met, or it goes.
-use borrow.Author.Rules.{rules}
 use Prim.Native.Nat.{◌+◌}
 use mathlib.Core.Path.{sym, ◌∙◌, ap}
 use native.Mathlib.Omega.{arith}

@@ -1,5 +1,4 @@
 -- `overwrite_in`: 5, then 1 where no offset is given.
-use borrow.Author.Rules.{rules}
 use mathlib.Core.Path.{sym, ◌∙◌, ap, subst}
 use Rattle.vmar_unmap.specs.Unmap.{State}
 use Rattle.vmar_overwrite.specs.declared.OverwriteOutcome.{OverwriteOutcome}

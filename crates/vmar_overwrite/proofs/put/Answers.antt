@@ -1,5 +1,4 @@
 -- `put`: the flags, then the record.
-use borrow.Author.Rules.{rules}
 use Rattle.common.proofs.Sets.{byte}
 use Rattle.vmar_overwrite.proofs.put.Goals as goal
 

@@ -1,5 +1,4 @@
 -- `changed_pages`: the part, by pages.
-use borrow.Author.Rules.{rules}
 use native.Mathlib.Omega.{arith}
 use Rattle.vmar_protect.proofs.Parts.{from_is, part_runs}
 use Rattle.vmar_protect.proofs.changed_pages.Goals as goal

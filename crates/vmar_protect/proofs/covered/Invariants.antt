@@ -1,12 +1,7 @@
 -- `covered`: each place adds its part, at most 2 MiB.
-use borrow.Author.Rules.{rules}
-use mathlib.Core.Path.{◌≡◌, ◌∙◌, ap}
-use Prim.Native.Nat.{ℕ, ◌+◌, ◌-◌, ◌*◌, ◌≤◌}
-use native.Mathlib.Omega.{arith}
-use Rattle.space.specs.Space.{mapping_at, mapping_place}
-use Rattle.space.proofs.Facts.{mapping_place_lem}
+use mathlib.Core.Path.{◌≡◌}
+use Prim.Native.Nat.{◌-◌, ◌*◌, ◌≤◌}
 use Rattle.vmar_protect.specs.Protect.{total}
-use Rattle.vmar_protect.proofs.Parts.{part_most, total_none, total_more}
 use Rattle.vmar_protect.proofs.covered.Given as goal
 
 abbrev pub invariant-loop-k : goal.invariant-loop-k

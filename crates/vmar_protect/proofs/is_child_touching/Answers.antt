@@ -1,11 +1,8 @@
-use borrow.Author.Rules.{rules}
-use mathlib.Core.Path.{◌≡◌, refl, sym, ◌∙◌}
-use Prim.Native.Nat.{◌-◌, ◌≤◌}
+use mathlib.Core.Path.{refl, sym, ◌∙◌}
 use native.Mathlib.Omega.{arith}
-use Rattle.scan.specs.Scan.{some}
 use Rattle.scan.proofs.Scans.{some_here, some_later, some_none}
 use Rattle.space.proofs.Facts.{region_place_lem, region_end}
-use Rattle.vmar_protect.specs.Protect.{touches_child, child_touched}
+use Rattle.vmar_protect.specs.Protect.{touches_child}
 use Rattle.vmar_protect.proofs.is_child_touching.Goals as goal
 
 pub loop-k-init : goal.loop-k-init

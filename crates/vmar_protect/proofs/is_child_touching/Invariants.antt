@@ -1,11 +1,7 @@
 -- `is_child_touching`: the places passed do not touch.
-use borrow.Author.Rules.{rules}
-use mathlib.Core.Path.{◌≡◌, refl, sym, ◌∙◌}
+use mathlib.Core.Path.{◌≡◌}
 use Prim.Native.Nat.{◌-◌, ◌≤◌}
-use native.Mathlib.Omega.{arith}
 use Rattle.scan.specs.Scan.{some}
-use Rattle.scan.proofs.Scans.{some_here, some_later, some_none}
-use Rattle.space.proofs.Facts.{region_place_lem, region_end}
 use Rattle.vmar_protect.specs.Protect.{touches_child, child_touched}
 use Rattle.vmar_protect.proofs.is_child_touching.Given as goal
 

@@ -1,11 +1,7 @@
 -- `is_denied`: the places passed do not deny.
-use borrow.Author.Rules.{rules}
-use mathlib.Core.Path.{◌≡◌, refl, sym, ◌∙◌}
+use mathlib.Core.Path.{◌≡◌}
 use Prim.Native.Nat.{◌-◌, ◌≤◌}
-use native.Mathlib.Omega.{arith}
 use Rattle.scan.specs.Scan.{some}
-use Rattle.scan.proofs.Scans.{some_here, some_later, some_none}
-use Rattle.space.proofs.Facts.{mapping_place_lem}
 use Rattle.vmar_protect.specs.Protect.{denies_at, denied}
 use Rattle.vmar_protect.proofs.is_denied.Given as goal
 

@@ -1,5 +1,4 @@
 -- `is_denying`: touching, then the permissions.
-use borrow.Author.Rules.{rules}
 use mathlib.Core.Path.{sym, ◌∙◌, ap}
 use borrow.Author.Tests.{not-true, not-false}
 use mathlib.Core.Bool.{not}

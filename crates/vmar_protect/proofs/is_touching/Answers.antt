@@ -1,5 +1,4 @@
 -- `is_touching`: the owner, then both ends.
-use borrow.Author.Rules.{rules}
 use mathlib.Core.Path.{refl}
 use borrow.Author.Tests.{lt-ltb, le-ltb, eq-eqb, ne_eqb}
 use Rattle.scan.proofs.Picks.{on, off}

@@ -1,5 +1,4 @@
 -- `part_to`: the earlier of the two ends.
-use borrow.Author.Rules.{rules}
 use mathlib.Core.Path.{refl}
 use borrow.Author.Tests.{lt-ltb, le-ltb}
 use Rattle.scan.proofs.Picks.{on, off}

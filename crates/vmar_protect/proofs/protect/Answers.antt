@@ -1,5 +1,4 @@
 -- `protect`: its tests in document 01's order, then the region.
-use borrow.Author.Rules.{rules}
 use mathlib.Core.Path.{sym, ◌∙◌, subst}
 use Prim.Native.Nat.{◌/◌}
 use borrow.Author.Tests.{lt-ltb, le-ltb, not-true, not-false}

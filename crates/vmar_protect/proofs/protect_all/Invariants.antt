@@ -1,11 +1,9 @@
 -- `protect_all`: mapping after mapping.
-use mathlib.Core.Path.{◌≡◌, refl, ◌∙◌, ap}
+use mathlib.Core.Path.{◌≡◌}
 use Prim.Native.Nat.{◌-◌, ◌/◌, ◌≤◌}
-use native.Mathlib.Omega.{arith}
 use lib.ListN.{length}
 use Rattle.form.specs.Form.{Good}
-use Rattle.vmar_protect.specs.Protect.{Lent, lent, mapping_done, mappings_done}
-use Rattle.vmar_protect.proofs.Buffers.{kept_by, mapping_kept, mappings_none, mappings_more}
+use Rattle.vmar_protect.specs.Protect.{lent, mappings_done}
 use Rattle.vmar_protect.proofs.protect_all.Given as goal
 
 abbrev pub invariant-loop-k : goal.invariant-loop-k

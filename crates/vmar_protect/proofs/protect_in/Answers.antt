@@ -1,5 +1,4 @@
 -- `protect_in`: 1 for a child, 4, 2, then the mappings.
-use borrow.Author.Rules.{rules}
 use mathlib.Core.Path.{sym, ◌∙◌, ap}
 use Prim.Native.Nat.{◌/◌}
 use borrow.Author.Tests.{eq-eqb, ne_eqb}

@@ -1,9 +1,6 @@
-use borrow.Author.Rules.{rules}
 use mathlib.Core.Path.{◌≡◌, refl, ◌∙◌, ap}
-use Prim.Native.Nat.{◌+◌, ◌-◌, ◌/◌, ◌≤◌}
+use Prim.Native.Nat.{◌+◌, ◌/◌}
 use native.Mathlib.Omega.{arith}
-use lib.ListN.{length}
-use Rattle.form.specs.Form.{Good}
 use Rattle.vmar_protect.specs.Protect.{Lent, lent, page_done, pages_done}
 use Rattle.vmar_protect.proofs.Buffers.{kept_by, page_kept, pages_none, pages_more}
 use Rattle.vmar_protect.proofs.protect_mapping.Goals as goal

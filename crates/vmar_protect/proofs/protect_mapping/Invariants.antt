@@ -1,12 +1,9 @@
 -- `protect_mapping`: page after page.
-use borrow.Author.Rules.{rules}
-use mathlib.Core.Path.{◌≡◌, refl, ◌∙◌, ap}
-use Prim.Native.Nat.{◌+◌, ◌-◌, ◌/◌, ◌≤◌}
-use native.Mathlib.Omega.{arith}
+use mathlib.Core.Path.{◌≡◌}
+use Prim.Native.Nat.{◌-◌, ◌/◌, ◌≤◌}
 use lib.ListN.{length}
 use Rattle.form.specs.Form.{Good}
-use Rattle.vmar_protect.specs.Protect.{Lent, lent, page_done, pages_done}
-use Rattle.vmar_protect.proofs.Buffers.{kept_by, page_kept, pages_none, pages_more}
+use Rattle.vmar_protect.specs.Protect.{lent, pages_done}
 use Rattle.vmar_protect.proofs.protect_mapping.Given as goal
 
 abbrev pub invariant-loop-n : goal.invariant-loop-n

@@ -1,5 +1,4 @@
 -- `protect_page`: the byte, then the leaf.
-use borrow.Author.Rules.{rules}
 use Prim.Native.Nat.{◌/◌}
 use Rattle.vmar_protect.proofs.Buffers.{page_is}
 use Rattle.vmar_protect.proofs.protect_page.Goals as goal

@@ -1,15 +1,11 @@
 -- `clear`: its tests in document 01's order.
-use borrow.Author.Rules.{rules}
-use Prim.Native.Nat.{ℕ, ◌+◌, ◌≤◌, ◌<◌}
-use mathlib.Core.Path.{◌≡◌, sym, ◌∙◌, ap, subst}
-use native.Mathlib.Omega.{arith}
-use borrow.Author.Tests.{lt-ltb, le-ltb, not-true, not-false}
+use mathlib.Core.Path.{sym, ◌∙◌, ap, subst}
+use borrow.Author.Tests.{lt-ltb, le-ltb}
 use Rattle.vmar_unmap.specs.Unmap.{State, done}
 use Rattle.vmar_unmap.specs.declared.CutOutcome.{CutOutcome}
 use Rattle.space.specs.Passes.{LiveIn}
 use Rattle.vmar_offset.proofs.Found.{slot_live}
 use Rattle.vmar_unmap.proofs.Calls.{clear_unissued, clear_gone, clear_live}
-use borrow.Author.Rules.{rules}
 use Rattle.vmar_unmap.proofs.clear.Goals as goal
 
 pub returns-then-s-id : goal.returns-then-s-id

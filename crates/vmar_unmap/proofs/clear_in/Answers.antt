@@ -1,13 +1,9 @@
 -- `clear_in`: what refuses, in order; then the cut.
-use borrow.Author.Rules.{rules}
-use Prim.Native.Nat.{ℕ, ◌+◌, ◌≤◌, ◌<◌}
-use mathlib.Core.Path.{◌≡◌, sym, ◌∙◌, ap, subst}
-use native.Mathlib.Omega.{arith}
-use borrow.Author.Tests.{lt-ltb, le-ltb, not-true, not-false}
+use mathlib.Core.Path.{sym, ◌∙◌, ap}
+use borrow.Author.Tests.{not-true, not-false}
 use Rattle.vmar_unmap.specs.Unmap.{State, done}
 use Rattle.vmar_unmap.specs.declared.CutOutcome.{CutOutcome}
 use Rattle.vmar_unmap.proofs.Calls.{clear_dead, clear_frames, clear_cut}
-use borrow.Author.Rules.{rules}
 use Rattle.vmar_unmap.proofs.clear_in.Goals as goal
 
 pub returns-then-has_dead : goal.returns-then-has_dead

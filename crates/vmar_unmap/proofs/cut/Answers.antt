@@ -1,12 +1,8 @@
 -- `cut`: table, flags and space.
-use borrow.Author.Rules.{rules}
-use mathlib.Core.Path.{◌∙◌}
-use Rattle.vmar_doom.proofs.Dooms.{marked_length}
 use Rattle.vmar_doom.specs.Doomed.{marked}
 use Rattle.vmar_cuts.specs.Cuts.{unmap_cuts}
 use Rattle.vmar_unmap.specs.Unmap.{State}
 use Rattle.vmar_unmap.proofs.Calls.{cut_made}
-use borrow.Author.Rules.{rules}
 use Rattle.vmar_unmap.proofs.cut.Goals as goal
 
 pub returns : goal.returns

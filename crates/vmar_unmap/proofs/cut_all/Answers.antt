@@ -1,16 +1,12 @@
 -- `cut_all`: table, flags and space.
-use borrow.Author.Rules.{rules}
 use mathlib.Core.Path.{◌∙◌, ap}
 use mathlib.Core.Bool.{Bool, true}
 use mathlib.Core.List.{List}
-use lib.ListN.{length, set}
+use lib.ListN.{set}
 use Rattle.paging.specs.Choice.{pick}
-use Rattle.vmar_doom.specs.Doomed.{marked}
-use Rattle.vmar_doom.proofs.Dooms.{marked_length}
 use Rattle.vmar_cuts.specs.Cuts.{END, destroy_cuts}
 use Rattle.vmar_unmap.specs.Unmap.{State, going_with}
 use Rattle.vmar_unmap.proofs.Calls.{all_slot, cut_made}
-use borrow.Author.Rules.{rules}
 use Rattle.vmar_unmap.proofs.cut_all.Goals as goal
 
 pub prune-out-requires : goal.prune-out-requires

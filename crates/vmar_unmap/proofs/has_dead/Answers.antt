@@ -1,11 +1,8 @@
-use borrow.Author.Rules.{rules}
-use Prim.Native.Nat.{ℕ, ◌+◌, ◌-◌, ◌*◌, ◌/◌, ◌≤◌, ◌<◌}
-use mathlib.Core.Path.{◌≡◌, refl, sym, ◌∙◌}
+use mathlib.Core.Path.{refl, sym, ◌∙◌}
 use native.Mathlib.Omega.{arith}
-use Rattle.scan.specs.Scan.{some}
 use Rattle.scan.proofs.Scans.{some_here, some_later, some_none}
 use Rattle.space.proofs.Facts.{region_place_lem}
-use Rattle.vmar_unmap.specs.Unmap.{dead_at, has_dead}
+use Rattle.vmar_unmap.specs.Unmap.{dead_at}
 use Rattle.vmar_unmap.proofs.has_dead.Goals as goal
 
 pub loop-k-init : goal.loop-k-init

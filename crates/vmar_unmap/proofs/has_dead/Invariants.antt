@@ -1,11 +1,7 @@
 -- `has_dead`: the places passed hold live regions.
-use borrow.Author.Rules.{rules}
-use Prim.Native.Nat.{ℕ, ◌+◌, ◌-◌, ◌*◌, ◌/◌, ◌≤◌, ◌<◌}
-use mathlib.Core.Path.{◌≡◌, refl, sym, ◌∙◌}
-use native.Mathlib.Omega.{arith}
+use Prim.Native.Nat.{◌-◌, ◌≤◌}
+use mathlib.Core.Path.{◌≡◌}
 use Rattle.scan.specs.Scan.{some}
-use Rattle.scan.proofs.Scans.{some_here, some_later, some_none}
-use Rattle.space.proofs.Facts.{region_place_lem}
 use Rattle.vmar_unmap.specs.Unmap.{dead_at, has_dead}
 use Rattle.vmar_unmap.proofs.has_dead.Given as goal
 

@@ -1,8 +1,5 @@
-use borrow.Author.Rules.{rules}
-use Prim.Native.Nat.{ℕ, ◌+◌, ◌-◌, ◌*◌, ◌/◌, ◌≤◌, ◌<◌}
-use mathlib.Core.Path.{◌≡◌, refl, sym, ◌∙◌}
+use mathlib.Core.Path.{refl, sym, ◌∙◌}
 use native.Mathlib.Omega.{arith}
-use Rattle.scan.specs.Scan.{some}
 use Rattle.scan.proofs.Scans.{some_here, some_later, some_none}
 use Rattle.vmar_unmap.specs.Unmap.{partly_at}
 use Rattle.vmar_unmap.proofs.has_partly.Goals as goal

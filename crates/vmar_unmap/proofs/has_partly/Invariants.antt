@@ -1,10 +1,7 @@
 -- `has_partly`: the slots passed are apart or within.
-use borrow.Author.Rules.{rules}
-use Prim.Native.Nat.{ℕ, ◌+◌, ◌-◌, ◌*◌, ◌/◌, ◌≤◌, ◌<◌}
-use mathlib.Core.Path.{◌≡◌, refl, sym, ◌∙◌}
-use native.Mathlib.Omega.{arith}
+use Prim.Native.Nat.{◌-◌, ◌≤◌}
+use mathlib.Core.Path.{◌≡◌}
 use Rattle.scan.specs.Scan.{some}
-use Rattle.scan.proofs.Scans.{some_here, some_later, some_none}
 use Rattle.vmar_unmap.specs.Unmap.{partly_at}
 use Rattle.vmar_unmap.proofs.has_partly.Given as goal
 

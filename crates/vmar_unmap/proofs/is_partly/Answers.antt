@@ -1,9 +1,7 @@
 -- `is_partly`: met, and not within.
-use borrow.Author.Rules.{rules}
 use mathlib.Core.Path.{sym, ◌∙◌}
 use borrow.Author.Tests.{not-true, not-false}
 use Rattle.vmar_unmap.proofs.Calls.{apart_child, meets_child_lem}
-use borrow.Author.Rules.{rules}
 use Rattle.vmar_unmap.proofs.is_partly.Goals as goal
 
 pub returns-then-not-child_meets : goal.returns-then-not-child_meets

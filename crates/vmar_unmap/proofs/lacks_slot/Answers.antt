@@ -1,8 +1,5 @@
 -- `lacks_slot`: only a split needs one.
-use borrow.Author.Rules.{rules}
-use mathlib.Core.Path.{sym}
 use Rattle.vmar_unmap.proofs.Calls.{no_split, a_split}
-use borrow.Author.Rules.{rules}
 use Rattle.vmar_unmap.proofs.lacks_slot.Goals as goal
 
 pub returns-then-split_slot-ge-MAPPINGS : goal.returns-then-split_slot-ge-MAPPINGS

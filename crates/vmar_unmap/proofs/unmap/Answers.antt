@@ -1,14 +1,9 @@
 -- `unmap`: its tests in document 01's order.
-use borrow.Author.Rules.{rules}
-use Prim.Native.Nat.{ℕ, ◌+◌, ◌≤◌, ◌<◌}
-use mathlib.Core.Path.{◌≡◌, sym, ◌∙◌, ap, subst}
-use native.Mathlib.Omega.{arith}
+use mathlib.Core.Path.{sym, ◌∙◌, ap}
 use borrow.Author.Tests.{lt-ltb, le-ltb, not-true, not-false}
 use Rattle.vmar_unmap.specs.Unmap.{State, done}
 use Rattle.vmar_unmap.specs.declared.CutOutcome.{CutOutcome}
-use Rattle.vm.specs.Align.{multiple}
 use Rattle.vmar_unmap.proofs.Calls.{unmap_unissued, unmap_odd, unmap_odd_length, unmap_nothing, unmap_some, whole_pages}
-use borrow.Author.Rules.{rules}
 use Rattle.vmar_unmap.proofs.unmap.Goals as goal
 
 pub returns-then-s-id : goal.returns-then-s-id

@@ -1,14 +1,12 @@
 -- `unmap_in`: in a live region, where the end does not overflow.
-use borrow.Author.Rules.{rules}
-use Prim.Native.Nat.{ℕ, ◌+◌, ◌≤◌, ◌<◌}
-use mathlib.Core.Path.{◌≡◌, sym, ◌∙◌, ap, subst}
+use Prim.Native.Nat.{◌+◌}
+use mathlib.Core.Path.{sym, ◌∙◌, ap}
 use native.Mathlib.Omega.{arith}
-use borrow.Author.Tests.{lt-ltb, le-ltb, not-true, not-false}
+use borrow.Author.Tests.{not-true, not-false}
 use Rattle.vmar_unmap.specs.Unmap.{State, done}
 use Rattle.vmar_unmap.specs.declared.CutOutcome.{CutOutcome}
 use Rattle.space.proofs.Ranges.{sum_fits}
 use Rattle.vmar_unmap.proofs.Calls.{in_dead, in_over, in_range, has_slot}
-use borrow.Author.Rules.{rules}
 use Rattle.vmar_unmap.proofs.unmap_in.Goals as goal
 
 pub returns-then-r-eq-NO_REGION : goal.returns-then-r-eq-NO_REGION

@@ -1,10 +1,8 @@
 -- `with_itself`: one mark more, or none.
-use borrow.Author.Rules.{rules}
 use mathlib.Core.Path.{refl, ◌∙◌}
 use mathlib.Core.Bool.{true}
 use lib.ListN.{length-set}
-use Rattle.scan.proofs.Picks.{on, off}
-use borrow.Author.Rules.{rules}
+use Rattle.scan.proofs.Picks.{on}
 use Rattle.vmar_unmap.proofs.with_itself.Goals as goal
 
 pub returns-then-is_itself : goal.returns-then-is_itself

@@ -1,20 +1,9 @@
 -- `check_pages`: the pages passed are allowed, and the slots passed do not hold the page.
-use borrow.Author.Rules.{rules}
-use Prim.Native.Nat.{◌+◌, ◌-◌, ◌*◌, ◌/◌, ◌≤◌, ◌<◌}
-use mathlib.Core.Path.{◌≡◌, refl, sym, ◌∙◌, ap, subst}
-use mathlib.Core.Bool.{true, false}
-use native.Mathlib.Omega.{arith}
-use borrow.Author.Tests.{not-true, not-false}
-use Rattle.common.proofs.Sets.{byte}
-use Rattle.refusal.specs.declared.Refusal.TheVariants.{NotFound}
+use Prim.Native.Nat.{◌+◌, ◌-◌, ◌*◌, ◌/◌, ◌≤◌}
+use mathlib.Core.Path.{◌≡◌}
 use Rattle.scan.specs.Scan.{first}
-use Rattle.scan.proofs.Scans.{first_later, first_none}
-use Rattle.space.specs.Range.{contains}
-use Rattle.space.specs.Space.{region_at}
-use Rattle.vmar_lookup.specs.Laws.{Holds}
 use Rattle.vmar_user_range.specs.UserRange.{start_of, verdict, checked_to}
-use Rattle.vmar_user_range.proofs.Runs.{stops_here, none_left}
-use Rattle.vmar_user_range.proofs.Stretches.{held_at, holder_of, Stretched, held_there, outside_region, unheld, page_of, told}
+use Rattle.vmar_user_range.proofs.Stretches.{held_at, holder_of}
 use Rattle.vmar_user_range.proofs.check_pages.Given as goal
 
 abbrev pub invariant-loop-page : goal.invariant-loop-page

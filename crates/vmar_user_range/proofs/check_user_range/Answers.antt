@@ -1,6 +1,5 @@
 -- `check_user_range`: its tests in document 01's order, then the pages.
-use borrow.Author.Rules.{rules}
-use Prim.Native.Nat.{◌+◌, ◌-◌}
+use Prim.Native.Nat.{◌-◌}
 use mathlib.Core.Path.{sym, ◌∙◌, subst}
 use native.Mathlib.Omega.{arith}
 use borrow.Author.Tests.{lt-ltb, le-ltb, eq-eqb, ne_eqb, not-true, not-false}
@@ -8,7 +7,6 @@ use Rattle.space.specs.Passes.{LiveIn}
 use Rattle.space.proofs.Ranges.{sum_fits}
 use Rattle.vmar_offset.proofs.Found.{slot_live}
 use Rattle.vmar_user_range.proofs.Calls.{never_issued, empty, unknown, over, dead, live}
-use borrow.Author.Rules.{rules}
 use Rattle.vmar_user_range.proofs.check_user_range.Goals as goal
 
 pub returns-then-s-id : goal.returns-then-s-id

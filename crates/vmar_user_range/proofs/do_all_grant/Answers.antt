@@ -1,11 +1,7 @@
-use borrow.Author.Rules.{rules}
-use Prim.Native.Nat.{ℕ, ◌+◌, ◌-◌, ◌≤◌}
-use mathlib.Core.Path.{◌≡◌}
-use mathlib.Core.Bool.{true}
+use Prim.Native.Nat.{◌+◌}
 use native.Mathlib.Omega.{arith}
 use lib.ListN.{get_or}
-use Rattle.common.specs.Flags.{grants}
-use Rattle.scan.proofs.Gather.{Gathered, nothing, more, gathered}
+use Rattle.scan.proofs.Gather.{nothing, more, gathered}
 use Rattle.vmar_user_range.proofs.Stretches.{lacks_none, grants_all}
 use Rattle.vmar_user_range.proofs.do_all_grant.Goals as goal
 

@@ -1,13 +1,10 @@
 -- `do_all_grant`: what is missing is gathered.
-use borrow.Author.Rules.{rules}
 use Prim.Native.Nat.{ℕ, ◌+◌, ◌-◌, ◌≤◌}
 use mathlib.Core.Path.{◌≡◌}
 use mathlib.Core.Bool.{true}
-use native.Mathlib.Omega.{arith}
 use lib.ListN.{get_or}
 use Rattle.common.specs.Flags.{grants}
-use Rattle.scan.proofs.Gather.{Gathered, nothing, more, gathered}
-use Rattle.vmar_user_range.proofs.Stretches.{lacks_none, grants_all}
+use Rattle.scan.proofs.Gather.{Gathered}
 use Rattle.vmar_user_range.proofs.do_all_grant.Given as goal
 
 abbrev pub invariant-loop-j : goal.invariant-loop-j

@@ -1,10 +1,8 @@
 -- `is_held`: live, and holding the address.
-use borrow.Author.Rules.{rules}
-use mathlib.Core.Path.{refl, sym, ◌∙◌}
+use mathlib.Core.Path.{refl}
 use borrow.Author.Tests.{not-true, not-false}
 use Rattle.scan.proofs.Picks.{on, off}
 use Rattle.vmar_user_range.specs.UserRange.{is_held}
-use borrow.Author.Rules.{rules}
 use Rattle.vmar_user_range.proofs.is_held.Goals as goal
 
 pub returns-then-not-m : goal.returns-then-not-m

@@ -1,10 +1,8 @@
 -- `pages_in`: up to the last page or the mapping's end.
-use borrow.Author.Rules.{rules}
-use mathlib.Core.Path.{refl, sym}
+use mathlib.Core.Path.{refl}
 use borrow.Author.Tests.{lt-ltb, le-ltb}
 use Rattle.scan.proofs.Picks.{on, off}
 use Rattle.vmar_user_range.specs.UserRange.{pages_in}
-use borrow.Author.Rules.{rules}
 use Rattle.vmar_user_range.proofs.pages_in.Goals as goal
 
 pub returns-then-last-end : goal.returns-then-last-end

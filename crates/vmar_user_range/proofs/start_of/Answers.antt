@@ -1,8 +1,6 @@
 -- `start_of`: the page's first address, or where the range begins.
-use borrow.Author.Rules.{rules}
-use mathlib.Core.Path.{refl, sym}
+use mathlib.Core.Path.{sym}
 use Rattle.vmar_user_range.proofs.Stretches.{at_addr, at_page}
-use borrow.Author.Rules.{rules}
 use Rattle.vmar_user_range.proofs.start_of.Goals as goal
 
 pub returns-then-start-addr : goal.returns-then-start-addr

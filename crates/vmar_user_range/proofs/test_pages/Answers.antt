@@ -1,5 +1,4 @@
 -- `test_pages`: the first byte tells of USER, all of the access.
-use borrow.Author.Rules.{rules}
 use Prim.Native.Nat.{◌+◌, ◌-◌, ◌*◌, ◌/◌}
 use mathlib.Core.Path.{refl, sym, ◌∙◌}
 use native.Mathlib.Omega.{arith}

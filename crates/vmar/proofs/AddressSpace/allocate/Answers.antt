@@ -4,7 +4,6 @@ use borrow.Author.Tests.{not-true, not-false}
 use Rattle.paging.specs.Choice.{refused, taken}
 use Rattle.paging.proofs.Cases.{decided_true, decided_false}
 use Rattle.vmar.specs.Calls.{allocate_told}
-use borrow.Author.Rules.{rules}
 use Rattle.vmar.proofs.AddressSpace.allocate.Goals as goal
 
 pub returns-then-not-is_good : goal.returns-then-not-is_good

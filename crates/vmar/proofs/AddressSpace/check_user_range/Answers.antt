@@ -5,7 +5,6 @@ use Rattle.paging.specs.Choice.{refused, taken}
 use Rattle.paging.proofs.Cases.{decided_true, decided_false}
 use Rattle.vmar_user_range.specs.declared.UserRangeResult.{UserRangeResult}
 use Rattle.vmar.specs.Calls.{seen, user_range_told}
-use borrow.Author.Rules.{rules}
 use Rattle.vmar.proofs.AddressSpace.check_user_range.Goals as goal
 
 pub returns-then-not-is_good : goal.returns-then-not-is_good

@@ -5,7 +5,6 @@ use Rattle.paging.specs.Choice.{refused, taken}
 use Rattle.paging.proofs.Cases.{decided_true, decided_false}
 use Rattle.vmar_lookup.specs.declared.FlagsResult.{FlagsResult}
 use Rattle.vmar.specs.Calls.{looked, flags_told}
-use borrow.Author.Rules.{rules}
 use Rattle.vmar.proofs.AddressSpace.get_mapping_flags.Goals as goal
 
 pub returns-then-not-is_good : goal.returns-then-not-is_good

@@ -1,12 +1,9 @@
 -- `get_vaddr_flags`: 12, 13, then the core.
 use mathlib.Core.Path.{refl, ap}
 use borrow.Author.Tests.{not-true, not-false}
-use Rattle.paging.specs.Choice.{taken}
 use Rattle.paging.proofs.Cases.{decided_true, decided_false}
 use Rattle.vmar_lookup.specs.declared.FlagsResult.{FlagsResult}
 use Rattle.vmar.specs.Calls.{looked, flags_told, bad_space, bad_table, done}
-use borrow.Author.Rules.{rules}
-use Rattle.space_check.proofs.is_good.Reads as is-good-reads'
 use Rattle.vmar.proofs.AddressSpace.get_vaddr_flags.Goals as goal
 
 pub returns-then-not-is_good : goal.returns-then-not-is_good

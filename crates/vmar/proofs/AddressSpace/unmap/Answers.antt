@@ -1,10 +1,8 @@
 -- `unmap`: 12, 13, then the core.
-use borrow.Author.Rules.{rules}
 use mathlib.Core.Path.{refl, ap}
 use borrow.Author.Tests.{not-true, not-false}
 use Rattle.paging.proofs.Cases.{decided_true, decided_false}
 use Rattle.vmar.specs.Calls.{cut_told, bad_space, bad_table, done}
-use borrow.Author.Rules.{rules}
 use Rattle.vmar.proofs.AddressSpace.unmap.Goals as goal
 
 pub returns-then-not-is_good : goal.returns-then-not-is_good
