@@ -21,7 +21,7 @@ page_level-level-requires c = c.loop-remains.invariant.1
 pub count_page-answer-requires : goal.count_page-answer-requires
 count_page-answer-requires c =
     let chosen : (let x = c.loop-remains in Fits c.args.top x.vaddr x.paddr x.remains c.page_level-level.result) = let x = c.loop-remains in
-        fits_now c.args.top x.vaddr x.paddr x.remains c.page_level-level.result x.invariant.2.range c.loop-remains-test.true c.page_level-level.ensures in
+    fits_now c.args.top x.vaddr x.paddr x.remains c.page_level-level.result x.invariant.2.range c.loop-remains-test.true c.page_level-level.ensures in
     let i = c.loop-remains.invariant in record { good = i.0; counted = (i.2.few, i.2.high c.page_level-level.result (omega (arith, chosen.low, i.1)) chosen.virt) }
 
 pub returns-in_default : goal.returns-in_default
@@ -34,7 +34,7 @@ returns-in_default c =
 pub overflow_add-vaddr : goal.overflow_add-vaddr
 overflow_add-vaddr c =
     let chosen : (let x = c.loop-remains in Fits c.args.top x.vaddr x.paddr x.remains c.page_level-level.result) = let x = c.loop-remains in
-        fits_now c.args.top x.vaddr x.paddr x.remains c.page_level-level.result x.invariant.2.range c.loop-remains-test.true c.page_level-level.ensures in
+    fits_now c.args.top x.vaddr x.paddr x.remains c.page_level-level.result x.invariant.2.range c.loop-remains-test.true c.page_level-level.ensures in
     let bytes : c.size-step.result ≡ span c.page_level-level.result = c.size-step.ensures ∙ ap size_of c.size_at.ensures ∙ size_bytes c.page_level-level.result (omega (arith, chosen.low, c.loop-remains.invariant.1)) in
     let x = c.loop-remains in
     omega (arith, range_below x.vaddr x.remains x.paddr x.invariant.2.range, chosen.room, bytes)
@@ -42,32 +42,31 @@ overflow_add-vaddr c =
 pub overflow_add-paddr : goal.overflow_add-paddr
 overflow_add-paddr c =
     let chosen : (let x = c.loop-remains in Fits c.args.top x.vaddr x.paddr x.remains c.page_level-level.result) = let x = c.loop-remains in
-        fits_now c.args.top x.vaddr x.paddr x.remains c.page_level-level.result x.invariant.2.range c.loop-remains-test.true c.page_level-level.ensures in
+    fits_now c.args.top x.vaddr x.paddr x.remains c.page_level-level.result x.invariant.2.range c.loop-remains-test.true c.page_level-level.ensures in
     let bytes : c.size-step.result ≡ span c.page_level-level.result = c.size-step.ensures ∙ ap size_of c.size_at.ensures ∙ size_bytes c.page_level-level.result (omega (arith, chosen.low, c.loop-remains.invariant.1)) in
     omega (arith, c.loop-remains.invariant.2.range.physical, chosen.room, bytes)
 
 pub overflow_sub-remains : goal.overflow_sub-remains
 overflow_sub-remains c =
     let chosen : (let x = c.loop-remains in Fits c.args.top x.vaddr x.paddr x.remains c.page_level-level.result) = let x = c.loop-remains in
-        fits_now c.args.top x.vaddr x.paddr x.remains c.page_level-level.result x.invariant.2.range c.loop-remains-test.true c.page_level-level.ensures in
+    fits_now c.args.top x.vaddr x.paddr x.remains c.page_level-level.result x.invariant.2.range c.loop-remains-test.true c.page_level-level.ensures in
     let bytes : c.size-step.result ≡ span c.page_level-level.result = c.size-step.ensures ∙ ap size_of c.size_at.ensures ∙ size_bytes c.page_level-level.result (omega (arith, chosen.low, c.loop-remains.invariant.1)) in
     omega (arith, chosen.room, bytes)
 
 pub loop-remains-smaller : goal.loop-remains-smaller
 loop-remains-smaller c =
     let chosen : (let x = c.loop-remains in Fits c.args.top x.vaddr x.paddr x.remains c.page_level-level.result) = let x = c.loop-remains in
-        fits_now c.args.top x.vaddr x.paddr x.remains c.page_level-level.result x.invariant.2.range c.loop-remains-test.true c.page_level-level.ensures in
+    fits_now c.args.top x.vaddr x.paddr x.remains c.page_level-level.result x.invariant.2.range c.loop-remains-test.true c.page_level-level.ensures in
     let bytes : c.size-step.result ≡ span c.page_level-level.result = c.size-step.ensures ∙ ap size_of c.size_at.ensures ∙ size_bytes c.page_level-level.result (omega (arith, chosen.low, c.loop-remains.invariant.1)) in
     omega (arith, chosen.room, bytes, (span_page c.page_level-level.result).0)
 
 pub loop-remains-preserved : goal.loop-remains-preserved
 loop-remains-preserved c =
     let chosen : (let x = c.loop-remains in Fits c.args.top x.vaddr x.paddr x.remains c.page_level-level.result) = let x = c.loop-remains in
-        fits_now c.args.top x.vaddr x.paddr x.remains c.page_level-level.result x.invariant.2.range c.loop-remains-test.true c.page_level-level.ensures in
+    fits_now c.args.top x.vaddr x.paddr x.remains c.page_level-level.result x.invariant.2.range c.loop-remains-test.true c.page_level-level.ensures in
     let bytes : c.size-step.result ≡ span c.page_level-level.result = c.size-step.ensures ∙ ap size_of c.size_at.ensures ∙ size_bytes c.page_level-level.result (omega (arith, chosen.low, c.loop-remains.invariant.1)) in
     let a = c.args in
-    let x = c.loop-remains in
- (
+    let x = c.loop-remains in (
       x.invariant.0,
       x.invariant.1,
       rw bytes (count_next a.pool.now (a.base / 4096) a.top _ x.taken x.made x.vaddr x.paddr x.remains x.invariant.2 c.loop-remains-test.true c.page_level-level.result c.page_level-level.ensures

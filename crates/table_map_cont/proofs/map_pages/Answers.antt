@@ -28,7 +28,7 @@ returns-in_default c =
     let x = c.loop-remains in
     let came : Mapping = record { result = c.map-answer.result; pool = c.map-answer.new.pool } in
     let mapped_page : came ≡ mapped x.pool (a.base / 4096) x.taken x.vaddr x.paddr (size_at c.page_level-level.result) a.flags.0 =
-        c.map-answer.ensures ∙ ap (λ (s : PageSize). mapped x.pool (a.base / 4096) x.taken x.vaddr x.paddr s a.flags.0) c.size_at-page_size.ensures in
+    c.map-answer.ensures ∙ ap (λ (s : PageSize). mapped x.pool (a.base / 4096) x.taken x.vaddr x.paddr s a.flags.0) c.size_at-page_size.ensures in
     write_fail a.base a.top a.flags.0 _ x.pool x.taken x.vaddr x.paddr x.remains x.invariant.2 x.invariant.0 c.loop-remains-test.true c.page_level-level.result c.page_level-level.ensures
     came mapped_page c.in_default.field-0 c.in_default.is
 
@@ -63,7 +63,7 @@ loop-remains-preserved c =
     let x = c.loop-remains in
     let came : Mapping = record { result = c.map-answer.result; pool = c.map-answer.new.pool } in
     let mapped_page : came ≡ mapped x.pool (a.base / 4096) x.taken x.vaddr x.paddr (size_at c.page_level-level.result) a.flags.0 =
-        c.map-answer.ensures ∙ ap (λ (s : PageSize). mapped x.pool (a.base / 4096) x.taken x.vaddr x.paddr s a.flags.0) c.size_at-page_size.ensures in
+    c.map-answer.ensures ∙ ap (λ (s : PageSize). mapped x.pool (a.base / 4096) x.taken x.vaddr x.paddr s a.flags.0) c.size_at-page_size.ensures in
     let chosen = fits_now c.args.top c.loop-remains.vaddr c.loop-remains.paddr c.loop-remains.remains c.page_level-level.result c.loop-remains.invariant.2.range c.loop-remains-test.true c.page_level-level.ensures in
     let bytes : c.size-step.result ≡ span c.page_level-level.result = c.size-step.ensures ∙ ap size_of c.size_at-page_size.ensures ∙ size_bytes c.page_level-level.result (omega (arith, chosen.low, c.loop-remains.invariant.0)) in (
       x.invariant.0,

@@ -16,12 +16,12 @@ returns-then-depth-eq0 t c = record { value = sym (ap (λ (xs : List Cut). cut_a
 
 pub loop-k-init : goal.loop-k-init
 loop-k-init t c = (
-      omega arith,
-      c.requires.passing.0.passes.regions.room,
-      c.requires.good,
-      refl,
-      ap (λ (xs : List Cut). cut_all (c.args.base / 4096) xs (record { pool = c.args.pool.now; used = c.args.used })) (all_left c.args.s c.args.depth c.args.r c.args.begin c.args.end c.if-depth-eq0.false),
-    )
+  omega arith,
+  c.requires.passing.0.passes.regions.room,
+  c.requires.good,
+  refl,
+  ap (λ (xs : List Cut). cut_all (c.args.base / 4096) xs (record { pool = c.args.pool.now; used = c.args.used })) (all_left c.args.s c.args.depth c.args.r c.args.begin c.args.end c.if-depth-eq0.false),
+)
 
 pub offset_bounds-s-slot : goal.offset_bounds-s-slot
 offset_bounds-s-slot t c =
@@ -69,7 +69,7 @@ shape_of-pool t c = c.loop-k.invariant.3
 
 pub returns : goal.returns
 returns t c =
-    let l = c.loop-k in record { value = cuts_end (below c.args.s c.args.depth c.args.r c.args.begin c.args.end) l.k c.args.s.regcount _ _ c.loop-k-test.false ∙ l.invariant.4; stays_good = l.invariant.2; }
+    let l = c.loop-k in record { value = cuts_end (below c.args.s c.args.depth c.args.r c.args.begin c.args.end) l.k c.args.s.regcount _ _ c.loop-k-test.false ∙ l.invariant.4; stays_good = l.invariant.2 }
 
 pub destroy_internal-in_use-requires : goal.destroy_internal-in_use-requires
 destroy_internal-in_use-requires t c = (omega (arith, c.decreases, c.if-depth-eq0.false), (c.loop-k.invariant.2, (c.requires.passing.0, everything)))

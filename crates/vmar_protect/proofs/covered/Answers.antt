@@ -25,19 +25,19 @@ part_in-sum-requires c =
 pub overflow_add-sum : goal.overflow_add-sum
 overflow_add-sum c =
     let small : c.part_in-sum.result ≤ 0x200000 = let a = c.args in
-        let pre = c.requires in
-        let at = mapping_place_lem pre.0.passes c.loop-k.k c.loop-k-test.true in
-        let g = pre.0.passes.paged _ at.0 at.1 in
-        omega (arith, c.part_in-sum.ensures, part_most (mapping_at a.s (mapping_place a.s c.loop-k.k)) a.r a.begin a.end, g.few, g.size) in
+    let pre = c.requires in
+    let at = mapping_place_lem pre.0.passes c.loop-k.k c.loop-k-test.true in
+    let g = pre.0.passes.paged _ at.0 at.1 in
+    omega (arith, c.part_in-sum.ensures, part_most (mapping_at a.s (mapping_place a.s c.loop-k.k)) a.r a.begin a.end, g.few, g.size) in
     record { fits = omega (arith, small, c.loop-k.invariant.0, c.loop-k.invariant.1, c.loop-k.invariant.2, c.loop-k-test.true) }
 
 pub loop-k-preserved : goal.loop-k-preserved
 loop-k-preserved c =
     let small : c.part_in-sum.result ≤ 0x200000 = let a = c.args in
-        let pre = c.requires in
-        let at = mapping_place_lem pre.0.passes c.loop-k.k c.loop-k-test.true in
-        let g = pre.0.passes.paged _ at.0 at.1 in
-        omega (arith, c.part_in-sum.ensures, part_most (mapping_at a.s (mapping_place a.s c.loop-k.k)) a.r a.begin a.end, g.few, g.size) in
+    let pre = c.requires in
+    let at = mapping_place_lem pre.0.passes c.loop-k.k c.loop-k-test.true in
+    let g = pre.0.passes.paged _ at.0 at.1 in
+    omega (arith, c.part_in-sum.ensures, part_most (mapping_at a.s (mapping_place a.s c.loop-k.k)) a.r a.begin a.end, g.few, g.size) in
     let loop = c.loop-k in
     let a = c.args in (
       omega (arith, c.loop-k-test.true),

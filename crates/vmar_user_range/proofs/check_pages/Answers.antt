@@ -64,12 +64,12 @@ returns-then-not-contains c =
 pub test_pages-requires : goal.test_pages-requires
 test_pages-requires c =
     let held : (let a = c.args in let loop = c.loop-page in Holds a.s (start_of a.addr loop.page) loop.slot) = let a = c.args in
-        let loop = c.loop-page in
-        let start = c.start_of-vaddr in
-        held_there a.s start.result (start_of a.addr loop.page) loop.slot start.ensures (omega arith) (sym c.is_held.ensures ∙ not-false c.is_held.result c.if-not-is_held.false-raw) in
+    let loop = c.loop-page in
+    let start = c.start_of-vaddr in
+    held_there a.s start.result (start_of a.addr loop.page) loop.slot start.ensures (omega arith) (sym c.is_held.ensures ∙ not-false c.is_held.result c.if-not-is_held.false-raw) in
     let inside : (let a = c.args in let loop = c.loop-page in contains (region_at a.s a.r).addr (region_at a.s a.r).size (start_of a.addr loop.page) ≡ true) = let a = c.args in
-        let region = c.contains in
-        ap (contains (region_at a.s a.r).addr (region_at a.s a.r).size) (sym c.start_of-vaddr.ensures) ∙ sym region.ensures ∙ not-false region.result c.if-not-contains.false-raw in
+    let region = c.contains in
+    ap (contains (region_at a.s a.r).addr (region_at a.s a.r).size) (sym c.start_of-vaddr.ensures) ∙ sym region.ensures ∙ not-false region.result c.if-not-contains.false-raw in
     let a = c.args in
     let pre = c.requires in
     let loop = c.loop-page in
@@ -80,16 +80,16 @@ test_pages-requires c =
 pub overflow_add-page : goal.overflow_add-page
 overflow_add-page c =
     let inside : (let a = c.args in let loop = c.loop-page in contains (region_at a.s a.r).addr (region_at a.s a.r).size (start_of a.addr loop.page) ≡ true) = let a = c.args in
-        let region = c.contains in
-        ap (contains (region_at a.s a.r).addr (region_at a.s a.r).size) (sym c.start_of-vaddr.ensures) ∙ sym region.ensures ∙ not-false region.result c.if-not-contains.false-raw in
+    let region = c.contains in
+    ap (contains (region_at a.s a.r).addr (region_at a.s a.r).size) (sym c.start_of-vaddr.ensures) ∙ sym region.ensures ∙ not-false region.result c.if-not-contains.false-raw in
     let held : (let a = c.args in let loop = c.loop-page in Holds a.s (start_of a.addr loop.page) loop.slot) = let a = c.args in
-        let loop = c.loop-page in
-        let start = c.start_of-vaddr in
-        held_there a.s start.result (start_of a.addr loop.page) loop.slot start.ensures (omega arith) (sym c.is_held.ensures ∙ not-false c.is_held.result c.if-not-is_held.false-raw) in
+    let loop = c.loop-page in
+    let start = c.start_of-vaddr in
+    held_there a.s start.result (start_of a.addr loop.page) loop.slot start.ensures (omega arith) (sym c.is_held.ensures ∙ not-false c.is_held.result c.if-not-is_held.false-raw) in
     let went : (let a = c.args in let loop = c.loop-page in Stretched (verdict a.s a.flags.now a.r a.addr a.access.0) loop.page (a.end / 4096) c.test_pages.result) = let a = c.args in
-        let pre = c.requires in
-        let loop = c.loop-page in
-        told a.s a.flags.now pre.1 a.r pre.0.slot pre.0.live a.addr a.access.0 loop.page (a.end / 4096) loop.slot loop.invariant.0 c.loop-page-test.true inside held c.test_pages.result c.test_pages.ensures in
+    let pre = c.requires in
+    let loop = c.loop-page in
+    told a.s a.flags.now pre.1 a.r pre.0.slot pre.0.live a.addr a.access.0 loop.page (a.end / 4096) loop.slot loop.invariant.0 c.loop-page-test.true inside held c.test_pages.result c.test_pages.ensures in
     let a = c.args in
     let loop = c.loop-page in
     let part = subst (Stretched (verdict a.s a.flags.now a.r a.addr a.access.0) loop.page (a.end / 4096)) c.in-Allowed.is went in
@@ -99,16 +99,16 @@ overflow_add-page c =
 pub loop-page-smaller : goal.loop-page-smaller
 loop-page-smaller c =
     let inside : (let a = c.args in let loop = c.loop-page in contains (region_at a.s a.r).addr (region_at a.s a.r).size (start_of a.addr loop.page) ≡ true) = let a = c.args in
-        let region = c.contains in
-        ap (contains (region_at a.s a.r).addr (region_at a.s a.r).size) (sym c.start_of-vaddr.ensures) ∙ sym region.ensures ∙ not-false region.result c.if-not-contains.false-raw in
+    let region = c.contains in
+    ap (contains (region_at a.s a.r).addr (region_at a.s a.r).size) (sym c.start_of-vaddr.ensures) ∙ sym region.ensures ∙ not-false region.result c.if-not-contains.false-raw in
     let held : (let a = c.args in let loop = c.loop-page in Holds a.s (start_of a.addr loop.page) loop.slot) = let a = c.args in
-        let loop = c.loop-page in
-        let start = c.start_of-vaddr in
-        held_there a.s start.result (start_of a.addr loop.page) loop.slot start.ensures (omega arith) (sym c.is_held.ensures ∙ not-false c.is_held.result c.if-not-is_held.false-raw) in
+    let loop = c.loop-page in
+    let start = c.start_of-vaddr in
+    held_there a.s start.result (start_of a.addr loop.page) loop.slot start.ensures (omega arith) (sym c.is_held.ensures ∙ not-false c.is_held.result c.if-not-is_held.false-raw) in
     let went : (let a = c.args in let loop = c.loop-page in Stretched (verdict a.s a.flags.now a.r a.addr a.access.0) loop.page (a.end / 4096) c.test_pages.result) = let a = c.args in
-        let pre = c.requires in
-        let loop = c.loop-page in
-        told a.s a.flags.now pre.1 a.r pre.0.slot pre.0.live a.addr a.access.0 loop.page (a.end / 4096) loop.slot loop.invariant.0 c.loop-page-test.true inside held c.test_pages.result c.test_pages.ensures in
+    let pre = c.requires in
+    let loop = c.loop-page in
+    told a.s a.flags.now pre.1 a.r pre.0.slot pre.0.live a.addr a.access.0 loop.page (a.end / 4096) loop.slot loop.invariant.0 c.loop-page-test.true inside held c.test_pages.result c.test_pages.ensures in
     let a = c.args in
     let loop = c.loop-page in
     let part = subst (Stretched (verdict a.s a.flags.now a.r a.addr a.access.0) loop.page (a.end / 4096)) c.in-Allowed.is went in
@@ -117,16 +117,16 @@ loop-page-smaller c =
 pub loop-page-preserved : goal.loop-page-preserved
 loop-page-preserved c =
     let inside : (let a = c.args in let loop = c.loop-page in contains (region_at a.s a.r).addr (region_at a.s a.r).size (start_of a.addr loop.page) ≡ true) = let a = c.args in
-        let region = c.contains in
-        ap (contains (region_at a.s a.r).addr (region_at a.s a.r).size) (sym c.start_of-vaddr.ensures) ∙ sym region.ensures ∙ not-false region.result c.if-not-contains.false-raw in
+    let region = c.contains in
+    ap (contains (region_at a.s a.r).addr (region_at a.s a.r).size) (sym c.start_of-vaddr.ensures) ∙ sym region.ensures ∙ not-false region.result c.if-not-contains.false-raw in
     let held : (let a = c.args in let loop = c.loop-page in Holds a.s (start_of a.addr loop.page) loop.slot) = let a = c.args in
-        let loop = c.loop-page in
-        let start = c.start_of-vaddr in
-        held_there a.s start.result (start_of a.addr loop.page) loop.slot start.ensures (omega arith) (sym c.is_held.ensures ∙ not-false c.is_held.result c.if-not-is_held.false-raw) in
+    let loop = c.loop-page in
+    let start = c.start_of-vaddr in
+    held_there a.s start.result (start_of a.addr loop.page) loop.slot start.ensures (omega arith) (sym c.is_held.ensures ∙ not-false c.is_held.result c.if-not-is_held.false-raw) in
     let went : (let a = c.args in let loop = c.loop-page in Stretched (verdict a.s a.flags.now a.r a.addr a.access.0) loop.page (a.end / 4096) c.test_pages.result) = let a = c.args in
-        let pre = c.requires in
-        let loop = c.loop-page in
-        told a.s a.flags.now pre.1 a.r pre.0.slot pre.0.live a.addr a.access.0 loop.page (a.end / 4096) loop.slot loop.invariant.0 c.loop-page-test.true inside held c.test_pages.result c.test_pages.ensures in
+    let pre = c.requires in
+    let loop = c.loop-page in
+    told a.s a.flags.now pre.1 a.r pre.0.slot pre.0.live a.addr a.access.0 loop.page (a.end / 4096) loop.slot loop.invariant.0 c.loop-page-test.true inside held c.test_pages.result c.test_pages.ensures in
     let a = c.args in
     let loop = c.loop-page in
     let part = subst (Stretched (verdict a.s a.flags.now a.r a.addr a.access.0) loop.page (a.end / 4096)) c.in-Allowed.is went in
@@ -135,16 +135,16 @@ loop-page-preserved c =
 pub returns-in-Refused : goal.returns-in-Refused
 returns-in-Refused c =
     let inside : (let a = c.args in let loop = c.loop-page in contains (region_at a.s a.r).addr (region_at a.s a.r).size (start_of a.addr loop.page) ≡ true) = let a = c.args in
-        let region = c.contains in
-        ap (contains (region_at a.s a.r).addr (region_at a.s a.r).size) (sym c.start_of-vaddr.ensures) ∙ sym region.ensures ∙ not-false region.result c.if-not-contains.false-raw in
+    let region = c.contains in
+    ap (contains (region_at a.s a.r).addr (region_at a.s a.r).size) (sym c.start_of-vaddr.ensures) ∙ sym region.ensures ∙ not-false region.result c.if-not-contains.false-raw in
     let held : (let a = c.args in let loop = c.loop-page in Holds a.s (start_of a.addr loop.page) loop.slot) = let a = c.args in
-        let loop = c.loop-page in
-        let start = c.start_of-vaddr in
-        held_there a.s start.result (start_of a.addr loop.page) loop.slot start.ensures (omega arith) (sym c.is_held.ensures ∙ not-false c.is_held.result c.if-not-is_held.false-raw) in
+    let loop = c.loop-page in
+    let start = c.start_of-vaddr in
+    held_there a.s start.result (start_of a.addr loop.page) loop.slot start.ensures (omega arith) (sym c.is_held.ensures ∙ not-false c.is_held.result c.if-not-is_held.false-raw) in
     let went : (let a = c.args in let loop = c.loop-page in Stretched (verdict a.s a.flags.now a.r a.addr a.access.0) loop.page (a.end / 4096) c.test_pages.result) = let a = c.args in
-        let pre = c.requires in
-        let loop = c.loop-page in
-        told a.s a.flags.now pre.1 a.r pre.0.slot pre.0.live a.addr a.access.0 loop.page (a.end / 4096) loop.slot loop.invariant.0 c.loop-page-test.true inside held c.test_pages.result c.test_pages.ensures in
+    let pre = c.requires in
+    let loop = c.loop-page in
+    told a.s a.flags.now pre.1 a.r pre.0.slot pre.0.live a.addr a.access.0 loop.page (a.end / 4096) loop.slot loop.invariant.0 c.loop-page-test.true inside held c.test_pages.result c.test_pages.ensures in
     let a = c.args in
     let loop = c.loop-page in
     sym (loop.invariant.3 ∙ subst (Stretched (verdict a.s a.flags.now a.r a.addr a.access.0) loop.page (a.end / 4096)) c.in-Refused.is went)
