@@ -1,4 +1,4 @@
--- `regions`: the index stays within the slots; the buffer keeps its length.
+-- `regions`: the index stays within the slots.
 use mathlib.Core.Path.{◌≡◌}
 use Prim.Native.Nat.{◌≤◌, ◌-◌}
 use lib.ListN.{length}
@@ -6,7 +6,7 @@ use borrow.Author.Rules.{rules}
 use Rattle.trace_listing.proofs.regions.Given as goal
 
 abbrev pub invariant-loop-i : goal.invariant-loop-i
-invariant-loop-i l = (l.i ≤ 32) × (length l.out ≡ length l.initial.out)
+invariant-loop-i g l = l.i ≤ 32
 
 abbrev pub decreases-loop-i : goal.decreases-loop-i
-decreases-loop-i l = 32 - l.i
+decreases-loop-i g l = 32 - l.i

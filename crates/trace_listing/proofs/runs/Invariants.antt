@@ -1,4 +1,4 @@
--- `runs`: a run begins no later than the page; the buffer keeps its length.
+-- `runs`: a run begins no later than the page.
 use mathlib.Core.Path.{◌≡◌}
 use Prim.Native.Nat.{◌≤◌, ◌-◌}
 use lib.ListN.{length}
@@ -6,7 +6,7 @@ use borrow.Author.Rules.{rules}
 use Rattle.trace_listing.proofs.runs.Given as goal
 
 abbrev pub invariant-loop-i : goal.invariant-loop-i
-invariant-loop-i l = (l.from ≤ l.i) × (l.i ≤ length l.pages) × (length l.out ≡ length l.initial.out)
+invariant-loop-i g l = (l.from ≤ l.i) × (l.i ≤ length l.pages)
 
 abbrev pub decreases-loop-i : goal.decreases-loop-i
-decreases-loop-i l = length l.pages - l.i
+decreases-loop-i g l = length l.pages - l.i
