@@ -1,8 +1,6 @@
 -- `page_flags`: the index stays within the flags.
-use mathlib.Core.Path.{◌≡◌}
 use Prim.Native.Nat.{◌≤◌, ◌-◌}
 use lib.ListN.{length}
-use borrow.Author.Rules.{rules}
 use Rattle.trace_listing.proofs.page_flags.Given as goal
 
 abbrev pub invariant-loop-i : goal.invariant-loop-i

@@ -1,8 +1,5 @@
 -- `reglist`: the index stays within the slots.
-use mathlib.Core.Path.{◌≡◌}
 use Prim.Native.Nat.{◌≤◌, ◌-◌}
-use lib.ListN.{length}
-use borrow.Author.Rules.{rules}
 use Rattle.trace_listing.proofs.reglist.Given as goal
 
 abbrev pub invariant-loop-k : goal.invariant-loop-k

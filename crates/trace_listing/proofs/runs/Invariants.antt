@@ -1,8 +1,6 @@
 -- `runs`: a run begins no later than the page.
-use mathlib.Core.Path.{◌≡◌}
 use Prim.Native.Nat.{◌≤◌, ◌-◌}
 use lib.ListN.{length}
-use borrow.Author.Rules.{rules}
 use Rattle.trace_listing.proofs.runs.Given as goal
 
 abbrev pub invariant-loop-i : goal.invariant-loop-i
