@@ -1,5 +1,5 @@
 -- `write_words`: the index stays within the words.
-use Rattle.std.proofs.Common.{◌≡◌, ◌-◌, ◌≤◌, length, rules}
+use Rattle.std.proofs.Common.{◌-◌, ◌≤◌, length}
 use Rattle.trace_table.proofs.write_words.Given as goal
 
 abbrev pub invariant-loop-i : goal.invariant-loop-i

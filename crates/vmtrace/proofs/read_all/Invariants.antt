@@ -1,5 +1,5 @@
 -- `read_all`: the turns that are left fall; each lent slice keeps its length.
-use Rattle.std.proofs.Common.{◌≡◌, length, rules}
+use Rattle.std.proofs.Common.{◌≡◌, length}
 use Rattle.vmtrace.proofs.read_all.Given as goal
 
 abbrev pub invariant-loop-turns : goal.invariant-loop-turns
