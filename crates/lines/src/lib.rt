@@ -1,23 +1,31 @@
 // The lines that the programs write: names, numbers, and the sum of a pool's words, by which a refusal is seen to leave them.
 #![tactic(auto)]
 
-use libc::STDOUT_FILENO;
+ghost use Rattle.std.specs.Prelude.{OnOk, false, decimal, ◌∷◌};
+ghost use Rattle.std.specs.Fmt.{digits};
+ghost use Rattle.std.specs.Io.KnownBytes.{Appends};
+
+use std::io::{self, Write};
 use std::num::wrapping_add_u64;
 
-pub fn text(bytes: &[u8]) {
-    io::write_all(STDOUT_FILENO, bytes);
+pub fn text<W: Write>(out: &mut W, bytes: &[u8]) -> io::Result<()>
+    ensures { OnOk result (Appends (W.contents out.old) (W.contents out.new) bytes.now) }
+{
+    out.write_all(bytes)
 }
 
 // In hexadecimal.
-pub fn number(n: u64) {
-    text(b" ");
-    io::print_hex(STDOUT_FILENO, n, 1);
+pub fn number<W: Write>(out: &mut W, n: u64) -> io::Result<()>
+    ensures { OnOk result (Appends (W.contents out.old) (W.contents out.new) (32 ∷ digits 16 false n)) }
+{
+    write!(out, " {n:x}")
 }
 
 // In decimal, as refusal numbers are.
-pub fn code(n: u64) {
-    text(b" ");
-    io::print_decimal(STDOUT_FILENO, n);
+pub fn code<W: Write>(out: &mut W, n: u64) -> io::Result<()>
+    ensures { OnOk result (Appends (W.contents out.old) (W.contents out.new) (32 ∷ decimal n)) }
+{
+    write!(out, " {n}")
 }
 
 pub fn sum(pool: &[u64]) -> u64 {

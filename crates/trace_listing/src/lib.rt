@@ -1,18 +1,19 @@
-// A space written out, by way of a lent buffer. Each function takes how many of its bytes wait and answers how many wait then.
+// A space written out, to any writer.
 #![tactic(auto)]
 
 ghost use Rattle.std.specs.Prelude.{◌+◌, ◌≤◌, ◌<◌, length};
 
 use space::{MAPPINGS, Mapping, REGIONS, Region, Space};
+use std::io::{self, Write};
 
-pub fn number(out: &mut [u8], waiting: usize, n: u64) -> usize {
-    let waiting = trace_output::byte(out, waiting, b' ');
-    trace_output::hex(out, waiting, n)
+pub fn number<W: Write>(out: &mut W, n: u64) -> io::Result<()> {
+    trace_output::byte(out, b' ')?;
+    trace_output::hex(out, n)
 }
 
-fn letter(out: &mut [u8], waiting: usize, b: u8) -> usize {
-    let waiting = trace_output::byte(out, waiting, b' ');
-    trace_output::byte(out, waiting, b)
+fn letter<W: Write>(out: &mut W, b: u8) -> io::Result<()> {
+    trace_output::byte(out, b' ')?;
+    trace_output::byte(out, b)
 }
 
 fn yes(b: bool) -> u64 {
@@ -20,27 +21,27 @@ fn yes(b: bool) -> u64 {
 }
 
 // Every field, of a record as it stands in its slot.
-fn region_fields(out: &mut [u8], waiting: usize, i: usize, g: Region) -> usize {
-    let waiting = letter(out, waiting, b'r');
-    let waiting = number(out, waiting, i as u64);
-    let waiting = number(out, waiting, yes(g.live));
-    let waiting = number(out, waiting, g.id);
-    let waiting = number(out, waiting, g.addr);
-    let waiting = number(out, waiting, g.size);
-    let waiting = number(out, waiting, g.flags);
-    number(out, waiting, g.parent as u64)
+fn region_fields<W: Write>(out: &mut W, i: usize, g: Region) -> io::Result<()> {
+    letter(out, b'r')?;
+    number(out, i as u64)?;
+    number(out, yes(g.live))?;
+    number(out, g.id)?;
+    number(out, g.addr)?;
+    number(out, g.size)?;
+    number(out, g.flags)?;
+    number(out, g.parent as u64)
 }
 
-fn mapping_fields(out: &mut [u8], waiting: usize, i: usize, m: Mapping) -> usize {
-    let waiting = letter(out, waiting, b'm');
-    let waiting = number(out, waiting, i as u64);
-    let waiting = number(out, waiting, yes(m.live));
-    let waiting = number(out, waiting, m.region as u64);
-    let waiting = number(out, waiting, m.addr);
-    let waiting = number(out, waiting, m.size);
-    let waiting = number(out, waiting, m.vmo);
-    let waiting = number(out, waiting, m.offset);
-    number(out, waiting, m.permissions)
+fn mapping_fields<W: Write>(out: &mut W, i: usize, m: Mapping) -> io::Result<()> {
+    letter(out, b'm')?;
+    number(out, i as u64)?;
+    number(out, yes(m.live))?;
+    number(out, m.region as u64)?;
+    number(out, m.addr)?;
+    number(out, m.size)?;
+    number(out, m.vmo)?;
+    number(out, m.offset)?;
+    number(out, m.permissions)
 }
 
 fn is_blank_region(g: Region) -> bool {
@@ -63,93 +64,88 @@ fn is_blank_mapping(m: Mapping) -> bool {
     m.region == 0
 }
 
-fn region_slot(out: &mut [u8], waiting: usize, i: usize, g: Region) -> usize {
+fn region_slot<W: Write>(out: &mut W, i: usize, g: Region) -> io::Result<()> {
     if is_blank_region(g) {
-        return waiting;
+        return Ok(());
     }
-    region_fields(out, waiting, i, g)
+    region_fields(out, i, g)
 }
 
-fn mapping_slot(out: &mut [u8], waiting: usize, i: usize, m: Mapping) -> usize {
+fn mapping_slot<W: Write>(out: &mut W, i: usize, m: Mapping) -> io::Result<()> {
     if is_blank_mapping(m) {
-        return waiting;
+        return Ok(());
     }
-    mapping_fields(out, waiting, i, m)
+    mapping_fields(out, i, m)
 }
 
 // A number with its place, if it is not 0.
-fn entry(out: &mut [u8], waiting: usize, name: u8, k: usize, n: u64) -> usize {
+fn entry<W: Write>(out: &mut W, name: u8, k: usize, n: u64) -> io::Result<()> {
     if n == 0 {
-        return waiting;
+        return Ok(());
     }
-    let waiting = letter(out, waiting, name);
-    let waiting = number(out, waiting, k as u64);
-    number(out, waiting, n)
+    letter(out, name)?;
+    number(out, k as u64)?;
+    number(out, n)
 }
 
-fn regions(s: Space, out: &mut [u8], waiting: usize) -> usize {
-    let mut now = waiting;
+fn regions<W: Write>(s: Space, out: &mut W) -> io::Result<()> {
     let mut i = 0;
     while i < REGIONS {
-        now = region_slot(out, now, i, s.regions[i]);
+        region_slot(out, i, s.regions[i])?;
         i += 1;
     }
-    now
+    Ok(())
 }
 
-fn mappings(s: Space, out: &mut [u8], waiting: usize) -> usize {
-    let mut now = waiting;
+fn mappings<W: Write>(s: Space, out: &mut W) -> io::Result<()> {
     let mut i = 0;
     while i < MAPPINGS {
-        now = mapping_slot(out, now, i, s.mappings[i]);
+        mapping_slot(out, i, s.mappings[i])?;
         i += 1;
     }
-    now
+    Ok(())
 }
 
-fn reglist(s: Space, out: &mut [u8], waiting: usize) -> usize {
-    let mut now = waiting;
+fn reglist<W: Write>(s: Space, out: &mut W) -> io::Result<()> {
     let mut k = 0;
     while k < REGIONS {
-        now = entry(out, now, b'R', k, s.reglist[k] as u64);
+        entry(out, b'R', k, s.reglist[k] as u64)?;
         k += 1;
     }
-    now
+    Ok(())
 }
 
-fn maplist(s: Space, out: &mut [u8], waiting: usize) -> usize {
-    let mut now = waiting;
+fn maplist<W: Write>(s: Space, out: &mut W) -> io::Result<()> {
     let mut k = 0;
     while k < MAPPINGS {
-        now = entry(out, now, b'M', k, s.maplist[k] as u64);
+        entry(out, b'M', k, s.maplist[k] as u64)?;
         k += 1;
     }
-    now
+    Ok(())
 }
 
 // Counts, next id, records and lists.
-pub fn records(s: Space, out: &mut [u8], waiting: usize) -> usize {
-    let waiting = number(out, waiting, s.regcount as u64);
-    let waiting = number(out, waiting, s.mapcount as u64);
-    let waiting = number(out, waiting, s.nextid);
-    let waiting = regions(s, out, waiting);
-    let waiting = mappings(s, out, waiting);
-    let waiting = reglist(s, out, waiting);
-    maplist(s, out, waiting)
+pub fn records<W: Write>(s: Space, out: &mut W) -> io::Result<()> {
+    number(out, s.regcount as u64)?;
+    number(out, s.mapcount as u64)?;
+    number(out, s.nextid)?;
+    regions(s, out)?;
+    mappings(s, out)?;
+    reglist(s, out)?;
+    maplist(s, out)
 }
 
-fn page(out: &mut [u8], waiting: usize, i: usize, flags: u8) -> usize {
-    entry(out, waiting, b'f', i, flags as u64)
+fn page<W: Write>(out: &mut W, i: usize, flags: u8) -> io::Result<()> {
+    entry(out, b'f', i, flags as u64)
 }
 
-pub fn page_flags(pages: &[u8], out: &mut [u8], waiting: usize) -> usize {
-    let mut now = waiting;
+pub fn page_flags<W: Write>(pages: &[u8], out: &mut W) -> io::Result<()> {
     let mut i = 0;
     while i < pages.len() {
-        now = page(out, now, i, pages[i]);
+        page(out, i, pages[i])?;
         i += 1;
     }
-    now
+    Ok(())
 }
 
 // A record of a slot; of what is no slot, that of slot 0.
@@ -177,20 +173,20 @@ fn ends_run(pages: &[u8], i: usize) -> bool
     true
 }
 
-fn run(out: &mut [u8], waiting: usize, flags: u8, many: usize) -> usize {
-    let waiting = letter(out, waiting, b'f');
-    let waiting = number(out, waiting, flags as u64);
-    number(out, waiting, many as u64)
+fn run<W: Write>(out: &mut W, flags: u8, many: usize) -> io::Result<()> {
+    letter(out, b'f')?;
+    number(out, flags as u64)?;
+    number(out, many as u64)
 }
 
 // The run that began at `from`, if page i ends it.
-fn ended_run(pages: &[u8], out: &mut [u8], waiting: usize, from: usize, i: usize) -> usize
+fn ended_run<W: Write>(pages: &[u8], out: &mut W, from: usize, i: usize) -> io::Result<()>
     requires { (from ≤ i) × (i < length pages.now) }
 {
     if !ends_run(pages, i) {
-        return waiting;
+        return Ok(());
     }
-    run(out, waiting, pages[i], i + 1 - from)
+    run(out, pages[i], i + 1 - from)
 }
 
 // Where the run of the page after page i began.
@@ -205,137 +201,132 @@ fn run_start(pages: &[u8], from: usize, i: usize) -> usize
 }
 
 // The runs of like pages.
-fn runs(pages: &[u8], out: &mut [u8], waiting: usize) -> usize {
-    let mut now = waiting;
+fn runs<W: Write>(pages: &[u8], out: &mut W) -> io::Result<()> {
     let mut from = 0;
     let mut i = 0;
     while i < pages.len() {
-        now = ended_run(pages, out, now, from, i);
+        ended_run(pages, out, from, i)?;
         from = run_start(pages, from, i);
         i += 1;
     }
-    now
+    Ok(())
 }
 
-fn mapping_runs(pages: &[u8], out: &mut [u8], waiting: usize, slot: usize, m: Mapping) -> usize {
+fn mapping_runs<W: Write>(pages: &[u8], out: &mut W, slot: usize, m: Mapping) -> io::Result<()> {
     if MAPPINGS <= slot {
-        return waiting;
+        return Ok(());
     }
     if pages.len() < 32768 {
-        return waiting;
+        return Ok(());
     }
     let at = slot * 512;
     let many = (m.size / 4096) as usize;
     if 512 < many {
-        return waiting;
+        return Ok(());
     }
     let end = at + many;
-    runs(&pages[at..end], out, waiting)
+    runs(&pages[at..end], out)
 }
 
-fn mapping_node(pages: &[u8], out: &mut [u8], waiting: usize, slot: usize, m: Mapping) -> usize {
-    let waiting = letter(out, waiting, b'm');
-    let waiting = number(out, waiting, m.addr);
-    let waiting = number(out, waiting, m.size);
-    let waiting = number(out, waiting, m.vmo);
-    let waiting = number(out, waiting, m.offset);
-    let waiting = number(out, waiting, m.permissions);
-    mapping_runs(pages, out, waiting, slot, m)
+fn mapping_node<W: Write>(pages: &[u8], out: &mut W, slot: usize, m: Mapping) -> io::Result<()> {
+    letter(out, b'm')?;
+    number(out, m.addr)?;
+    number(out, m.size)?;
+    number(out, m.vmo)?;
+    number(out, m.offset)?;
+    number(out, m.permissions)?;
+    mapping_runs(pages, out, slot, m)
 }
 
 // A mapping, if it is listed and one of region r.
-fn own_mapping(
+fn own_mapping<W: Write>(
     pages: &[u8],
-    out: &mut [u8],
-    waiting: usize,
+    out: &mut W,
     slot: usize,
     m: Mapping,
     r: usize,
     is_listed: bool,
-) -> usize {
+) -> io::Result<()> {
     if !is_listed {
-        return waiting;
+        return Ok(());
     }
     if m.region != r {
-        return waiting;
+        return Ok(());
     }
-    mapping_node(pages, out, waiting, slot, m)
+    mapping_node(pages, out, slot, m)
 }
 
-fn own_mappings(s: Space, pages: &[u8], out: &mut [u8], waiting: usize, r: usize) -> usize {
-    let mut now = waiting;
+fn own_mappings<W: Write>(s: Space, pages: &[u8], out: &mut W, r: usize) -> io::Result<()> {
     let mut k = 0;
     while k < MAPPINGS {
         let slot = s.maplist[k];
         let m = mapping_at(s, slot);
-        now = own_mapping(pages, out, now, slot, m, r, k < s.mapcount);
+        own_mapping(pages, out, slot, m, r, k < s.mapcount)?;
         k += 1;
     }
-    now
+    Ok(())
 }
 
 // The id of a region, if it is listed and a child of region r.
-fn child(out: &mut [u8], waiting: usize, g: Region, r: usize, is_listed: bool) -> usize {
+fn child<W: Write>(out: &mut W, g: Region, r: usize, is_listed: bool) -> io::Result<()> {
     if !is_listed {
-        return waiting;
+        return Ok(());
     }
     if g.parent != r {
-        return waiting;
+        return Ok(());
     }
-    let waiting = letter(out, waiting, b'c');
-    number(out, waiting, g.id)
+    letter(out, b'c')?;
+    number(out, g.id)
 }
 
-fn children(s: Space, out: &mut [u8], waiting: usize, r: usize) -> usize {
-    let mut now = waiting;
+fn children<W: Write>(s: Space, out: &mut W, r: usize) -> io::Result<()> {
     let mut k = 0;
     while k < REGIONS {
         let g = region_at(s, s.reglist[k]);
-        now = child(out, now, g, r, k < s.regcount);
+        child(out, g, r, k < s.regcount)?;
         k += 1;
     }
-    now
+    Ok(())
 }
 
 // The id of the parent; the root has none.
-fn parent(s: Space, out: &mut [u8], waiting: usize, up: usize) -> usize {
+fn parent<W: Write>(s: Space, out: &mut W, up: usize) -> io::Result<()> {
     if REGIONS <= up {
-        return letter(out, waiting, b'-');
+        return letter(out, b'-');
     }
     let g = s.regions[up];
-    number(out, waiting, g.id)
+    number(out, g.id)
 }
 
 // A region with what it holds, if it is listed.
-fn branch(
+fn branch<W: Write>(
     s: Space,
     pages: &[u8],
-    out: &mut [u8],
-    waiting: usize,
+    out: &mut W,
     r: usize,
     is_listed: bool,
-) -> usize {
+) -> io::Result<()> {
     if !is_listed {
-        return waiting;
+        return Ok(());
     }
     let g = region_at(s, r);
-    let waiting = letter(out, waiting, b'r');
-    let waiting = number(out, waiting, g.id);
-    let waiting = parent(s, out, waiting, g.parent);
-    let waiting = number(out, waiting, g.addr);
-    let waiting = number(out, waiting, g.size);
-    let waiting = number(out, waiting, g.flags);
-    let waiting = children(s, out, waiting, r);
-    own_mappings(s, pages, out, waiting, r)
+    letter(out, b'r')?;
+    number(out, g.id)?;
+    parent(s, out, g.parent)?;
+    number(out, g.addr)?;
+    number(out, g.size)?;
+    number(out, g.flags)?;
+    children(s, out, r)?;
+    own_mappings(s, pages, out, r)
 }
 
 // The next id, and each region in the order of the making.
-pub fn tree(s: Space, pages: &[u8], out: &mut [u8], waiting: usize) -> usize {
-    let mut now = number(out, waiting, s.nextid);
+pub fn tree<W: Write>(s: Space, pages: &[u8], out: &mut W) -> io::Result<()> {
+    number(out, s.nextid)?;
     let mut k = 0;
     while k < REGIONS {
-        now = branch(s, pages, out, now, s.reglist[k], k < s.regcount);
+        branch(s, pages, out, s.reglist[k], k < s.regcount)?;
         k += 1;
     }
-    now
+    Ok(())
 }

@@ -1,47 +1,39 @@
-// Output by way of a lent buffer, which is written out whenever it is full. Each function takes how many of its bytes wait and answers how many
-// wait then.
+// The pieces of an answer, written to any writer. A program buffers its own.
 #![tactic(auto)]
 
-use libc::STDOUT_FILENO;
+ghost use Rattle.std.specs.Prelude.{OnOk, ◌∷◌, [], false, decimal};
+ghost use Rattle.std.specs.Fmt.{digits};
+ghost use Rattle.std.specs.Io.KnownBytes.{Appends, Keeps};
 
-pub fn byte(out: &mut [u8], waiting: usize, b: u8) -> usize {
-    if waiting < out.len() {
-        out[waiting] = b;
-        return waiting + 1;
-    }
-    io::write_all(STDOUT_FILENO, out);
-    if out.len() == 0 {
-        return 0;
-    }
-    out[0] = b;
-    1
+use std::io::{self, Write};
+
+pub fn byte<W: Write>(out: &mut W, b: u8) -> io::Result<()>
+    ensures { OnOk result (Appends (W.contents out.old) (W.contents out.new) (b ∷ [])) }
+{
+    out.write_all(&[b])
 }
 
-pub fn text(out: &mut [u8], waiting: usize, bytes: &[u8]) -> usize {
-    let mut now = waiting;
-    let mut i = 0;
-    while i < bytes.len() {
-        now = byte(out, now, bytes[i]);
-        i += 1;
-    }
-    now
+pub fn text<W: Write>(out: &mut W, bytes: &[u8]) -> io::Result<()>
+    ensures { OnOk result (Appends (W.contents out.old) (W.contents out.new) bytes.now) }
+{
+    out.write_all(bytes)
 }
 
-pub fn hex(out: &mut [u8], waiting: usize, n: u64) -> usize {
-    let mut digits = [0u8; 16];
-    let k = io::hex(n, 1, &mut digits);
-    text(out, waiting, &digits[..k])
+pub fn hex<W: Write>(out: &mut W, n: u64) -> io::Result<()>
+    ensures { OnOk result (Appends (W.contents out.old) (W.contents out.new) (digits 16 false n)) }
+{
+    write!(out, "{n:x}")
 }
 
-pub fn decimal(out: &mut [u8], waiting: usize, n: u64) -> usize {
-    let mut digits = [0u8; 20];
-    let k = io::decimal(n, &mut digits);
-    text(out, waiting, &digits[..k])
+pub fn decimal<W: Write>(out: &mut W, n: u64) -> io::Result<()>
+    ensures { OnOk result (Appends (W.contents out.old) (W.contents out.new) (decimal n)) }
+{
+    write!(out, "{n}")
 }
 
 // Writes what waits.
-pub fn flush(out: &[u8], waiting: usize) {
-    if waiting <= out.len() {
-        io::write_all(STDOUT_FILENO, &out[..waiting]);
-    }
+pub fn flush<W: Write>(out: &mut W) -> io::Result<()>
+    ensures { Keeps (W.contents out.old) (W.contents out.new) }
+{
+    out.flush()
 }

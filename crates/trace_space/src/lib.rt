@@ -6,6 +6,7 @@ mod setting;
 
 use common::defs::{MMUFlags, VmarFlags};
 use refusal::Refusal;
+use std::io::{self, Write};
 use trace_line::{Fields, What};
 use vmar::{AddressSpace, Cut};
 use vmar_allocate::AllocateResult;
@@ -316,14 +317,14 @@ pub fn is_good(held: Held, pages: &[u8]) -> bool {
     space_check::is_good(held.space.space, &pages[..lent])
 }
 
-// Every field that is not 0, and every page flag. Answers how many bytes wait, as all that writes.
-pub fn write_space(held: Held, pages: &[u8], out: &mut [u8], waiting: usize) -> usize {
-    let waiting = trace_listing::number(out, waiting, held.lent as u64);
-    let waiting = trace_listing::records(held.space.space, out, waiting);
-    trace_listing::page_flags(pages, out, waiting)
+// Every field that is not 0, and every page flag.
+pub fn write_space<W: Write>(held: Held, pages: &[u8], out: &mut W) -> io::Result<()> {
+    trace_listing::number(out, held.lent as u64)?;
+    trace_listing::records(held.space.space, out)?;
+    trace_listing::page_flags(pages, out)
 }
 
 // The regions with their children and mappings.
-pub fn write_tree(held: Held, pages: &[u8], out: &mut [u8], waiting: usize) -> usize {
-    trace_listing::tree(held.space.space, pages, out, waiting)
+pub fn write_tree<W: Write>(held: Held, pages: &[u8], out: &mut W) -> io::Result<()> {
+    trace_listing::tree(held.space.space, pages, out)
 }

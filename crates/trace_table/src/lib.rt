@@ -3,6 +3,7 @@
 
 ghost use Rattle.std.specs.Prelude.{◌≤◌, length};
 
+use std::io::{self, Write};
 use std::num::wrapping_add_u64;
 use table::{NewAddr, NewFlags, QueryResult, UnmapResult, UpdateResult};
 use table_map::MapResult;
@@ -143,57 +144,56 @@ pub fn made(pool: &mut [u64], base: u64, used: usize, what: Line) -> Answer {
     }
 }
 
-fn number(out: &mut [u8], waiting: usize, n: u64) -> usize {
-    let waiting = trace_output::byte(out, waiting, b' ');
-    trace_output::hex(out, waiting, n)
+fn number<W: Write>(out: &mut W, n: u64) -> io::Result<()> {
+    trace_output::byte(out, b' ')?;
+    trace_output::hex(out, n)
 }
 
-pub fn count(out: &mut [u8], waiting: usize, n: u64) -> usize {
-    let waiting = trace_output::byte(out, waiting, b' ');
-    trace_output::decimal(out, waiting, n)
+pub fn count<W: Write>(out: &mut W, n: u64) -> io::Result<()> {
+    trace_output::byte(out, b' ')?;
+    trace_output::decimal(out, n)
 }
 
 // The end of an answer: the frames in use.
-pub fn finish(out: &mut [u8], waiting: usize, used: usize) -> usize {
-    let waiting = count(out, waiting, used as u64);
-    trace_output::byte(out, waiting, b'\n')
+pub fn finish<W: Write>(out: &mut W, used: usize) -> io::Result<()> {
+    count(out, used as u64)?;
+    trace_output::byte(out, b'\n')
 }
 
-fn write_values(out: &mut [u8], waiting: usize, answer: Answer) -> usize {
-    let waiting = number(out, waiting, answer.a);
+fn write_values<W: Write>(out: &mut W, answer: Answer) -> io::Result<()> {
+    number(out, answer.a)?;
     if answer.many < 2 {
-        return waiting;
+        return Ok(());
     }
-    let waiting = number(out, waiting, answer.b);
+    number(out, answer.b)?;
     if answer.many < 3 {
-        return waiting;
+        return Ok(());
     }
-    number(out, waiting, answer.c)
+    number(out, answer.c)
 }
 
-pub fn write_answer(out: &mut [u8], waiting: usize, answer: Answer) -> usize {
-    let waiting = count(out, waiting, answer.number);
-    let waiting = write_values(out, waiting, answer);
-    finish(out, waiting, answer.used)
+pub fn write_answer<W: Write>(out: &mut W, answer: Answer) -> io::Result<()> {
+    count(out, answer.number)?;
+    write_values(out, answer)?;
+    finish(out, answer.used)
 }
 
-fn write_word(out: &mut [u8], waiting: usize, index: usize, word: u64) -> usize {
+fn write_word<W: Write>(out: &mut W, index: usize, word: u64) -> io::Result<()> {
     if word == 0 {
-        return waiting;
+        return Ok(());
     }
-    let waiting = number(out, waiting, index as u64);
-    number(out, waiting, word)
+    number(out, index as u64)?;
+    number(out, word)
 }
 
 // Index and value of each word that is not 0.
-pub fn write_words(out: &mut [u8], waiting: usize, words: &[u64]) -> usize {
-    let mut now = waiting;
+pub fn write_words<W: Write>(out: &mut W, words: &[u64]) -> io::Result<()> {
     let mut i = 0;
     while i < words.len() {
-        now = write_word(out, now, i, words[i]);
+        write_word(out, i, words[i])?;
         i += 1;
     }
-    now
+    Ok(())
 }
 
 // How many words so many frames have, and no more than there are.

@@ -3,8 +3,8 @@
 #![tactic(auto)]
 
 use common::defs::{MMUFlags, VmarFlags};
-use libc::STDIN_FILENO;
 use refusal::Refusal;
+use std::io::{self, BufWriter, Read, Write};
 use std::num::wrapping_add_u64;
 use table::QueryResult;
 use table_map::MapResult;
@@ -13,6 +13,9 @@ use trace_line::{Fields, Line, What};
 use vmar::AddressSpace;
 use vmar_allocate::AllocateResult;
 use vmar_offset::Offset;
+
+// How much is read at once, and how much output waits to be written.
+const BUFFER: usize = 65536;
 
 const POOL_BASE: u64 = 0x10_0000;
 
@@ -28,8 +31,6 @@ struct State {
     lines: u64,
     // bytes of the line that is being read
     len: usize,
-    // bytes of output that wait
-    waiting: usize,
     // whether the input has
     is_ended: bool,
 }
@@ -130,28 +131,28 @@ fn offset(f: Fields) -> Offset {
     Offset::Some(f.n[1])
 }
 
-fn write_answer(out: &mut [u8], waiting: usize, line: u64, answer: Answer) -> usize {
-    let waiting = trace_output::decimal(out, waiting, line);
-    let waiting = trace_output::byte(out, waiting, b' ');
-    let waiting = trace_output::decimal(out, waiting, answer.number);
-    let waiting = trace_output::byte(out, waiting, b' ');
-    let waiting = trace_output::hex(out, waiting, answer.value);
-    let waiting = trace_output::byte(out, waiting, b' ');
-    let waiting = trace_output::decimal(out, waiting, answer.used as u64);
-    trace_output::byte(out, waiting, b'\n')
+fn write_answer<W: Write>(out: &mut W, line: u64, answer: Answer) -> io::Result<()> {
+    trace_output::decimal(out, line)?;
+    trace_output::byte(out, b' ')?;
+    trace_output::decimal(out, answer.number)?;
+    trace_output::byte(out, b' ')?;
+    trace_output::hex(out, answer.value)?;
+    trace_output::byte(out, b' ')?;
+    trace_output::decimal(out, answer.used as u64)?;
+    trace_output::byte(out, b'\n')
 }
 
 // The answered line makes way for the next.
-fn answered(out: &mut [u8], state: State, answer: Answer) -> State {
+fn answered<W: Write>(out: &mut W, state: State, answer: Answer) -> io::Result<State> {
     let mut after = state;
     after.lines = wrapping_add_u64(state.lines, 1);
     after.used = answer.used;
     after.len = 0;
-    after.waiting = write_answer(out, state.waiting, after.lines, answer);
-    after
+    write_answer(out, after.lines, answer)?;
+    Ok(after)
 }
 
-fn alloc(pages: &[u8], out: &mut [u8], state: State, f: Fields) -> State {
+fn alloc<W: Write>(pages: &[u8], out: &mut W, state: State, f: Fields) -> io::Result<State> {
     let a = state
         .space
         .allocate(pages, f.n[0], offset(f), f.n[2], VmarFlags(0), f.n[3]);
@@ -162,25 +163,29 @@ fn alloc(pages: &[u8], out: &mut [u8], state: State, f: Fields) -> State {
         used: state.used,
         lines: state.lines,
         len: state.len,
-        waiting: state.waiting,
         is_ended: state.is_ended,
     };
     answered(out, state, allocated(result, state.used))
 }
 
-fn on_table(pool: &mut [u64], out: &mut [u8], state: State, what: Line) -> State {
+fn on_table<W: Write>(
+    pool: &mut [u64],
+    out: &mut W,
+    state: State,
+    what: Line,
+) -> io::Result<State> {
     let answer = made(pool, state.used, what);
     answered(out, state, answer)
 }
 
-fn reply(
+fn reply<W: Write>(
     pool: &mut [u64],
     pages: &[u8],
     line: &[u8],
-    out: &mut [u8],
+    out: &mut W,
     state: State,
     what: Line,
-) -> State {
+) -> io::Result<State> {
     match what {
         Line::Space(_) => alloc(pages, out, state, trace_line::fields_of(line)),
         _ => on_table(pool, out, state, what),
@@ -188,7 +193,13 @@ fn reply(
 }
 
 // A line that does not fit is unreadable.
-fn end_line(pool: &mut [u64], pages: &[u8], line: &[u8], out: &mut [u8], state: State) -> State {
+fn end_line<W: Write>(
+    pool: &mut [u64],
+    pages: &[u8],
+    line: &[u8],
+    out: &mut W,
+    state: State,
+) -> io::Result<State> {
     let len = state.len;
     if line.len() < len {
         return reply(pool, pages, line, out, state, Line::Unreadable);
@@ -198,101 +209,110 @@ fn end_line(pool: &mut [u64], pages: &[u8], line: &[u8], out: &mut [u8], state: 
 }
 
 // Bytes of a line, and whether they end it.
-fn take(
+fn take<W: Write>(
     pool: &mut [u64],
     pages: &[u8],
     line: &mut [u8],
-    out: &mut [u8],
+    out: &mut W,
     state: State,
     bytes: &[u8],
     is_end: bool,
-) -> State {
+) -> io::Result<State> {
     let mut after = state;
     after.len = trace_input::append(line, state.len, bytes);
     if is_end {
         return end_line(pool, pages, line, out, after);
     }
-    after
+    Ok(after)
 }
 
-fn take_all(
+fn take_all<W: Write>(
     pool: &mut [u64],
     pages: &[u8],
     line: &mut [u8],
-    out: &mut [u8],
+    out: &mut W,
     state: State,
     input: &[u8],
-) -> State {
+) -> io::Result<State> {
     let mut now = state;
     let mut i = 0;
     while i < input.len() {
         let to = trace_input::line_end(input, i);
-        now = take(pool, pages, line, out, now, &input[i..to], to < input.len());
+        now = take(pool, pages, line, out, now, &input[i..to], to < input.len())?;
         i = trace_input::next_line(input, i, to);
     }
-    trace_output::flush(out, now.waiting);
-    now.waiting = 0;
-    now
+    trace_output::flush(out)?;
+    Ok(now)
 }
 
 // Reads once, and answers the lines that end there.
-fn turn(
+fn turn<R: Read, W: Write>(
+    from: &mut R,
     pool: &mut [u64],
     pages: &[u8],
     line: &mut [u8],
-    out: &mut [u8],
+    out: &mut W,
     input: &mut [u8],
     state: State,
-) -> State {
-    let n = io::count(libc::read(STDIN_FILENO, input), input);
+) -> io::Result<State> {
+    let n = from.read(input)?;
     if n == 0 {
         let mut after = state;
         after.is_ended = true;
-        return after;
+        return Ok(after);
     }
     take_all(pool, pages, line, out, state, &input[..n])
 }
 
-fn read_all(
+fn read_all<R: Read, W: Write>(
+    from: &mut R,
     pool: &mut [u64],
     pages: &[u8],
     line: &mut [u8],
-    out: &mut [u8],
+    out: &mut W,
     input: &mut [u8],
     state: State,
-) -> State {
+) -> io::Result<State> {
     let mut now = state;
     let mut turns = u64::MAX;
     while 0 < turns {
-        now = turn(pool, pages, line, out, input, now);
+        now = turn(from, pool, pages, line, out, input, now)?;
         turns = trace_input::left(turns, now.is_ended);
     }
-    now
+    Ok(now)
 }
 
 // A last line without an end is a line.
-fn end_input(pool: &mut [u64], pages: &[u8], line: &[u8], out: &mut [u8], state: State) {
+fn end_input<W: Write>(
+    pool: &mut [u64],
+    pages: &[u8],
+    line: &[u8],
+    out: &mut W,
+    state: State,
+) -> io::Result<()> {
     if state.len == 0 {
-        return;
+        return Ok(());
     }
-    let after = end_line(pool, pages, line, out, state);
-    trace_output::flush(out, after.waiting);
+    let _ended = end_line(pool, pages, line, out, state)?;
+    trace_output::flush(out)
 }
 
-fn main() {
+fn main(rt: HostRuntime) -> io::Result<()> {
     let mut pool: [u64; 4096] = [0; 4096];
     let pages: [u8; 32768] = [0; 32768];
     let mut line = [0u8; 128];
-    let mut out = io::large_buffer();
-    let mut input = io::large_buffer();
+    let mut out = BufWriter::with_capacity(rt.alloc(), BUFFER, io::writer(&rt))?;
+    let mut input = [0u8; BUFFER];
+    let mut from = rt.reader();
     let state = State {
         space: AddressSpace::new_root(),
         used: 1,
         lines: 0,
         len: 0,
-        waiting: 0,
         is_ended: false,
     };
-    let after = read_all(&mut pool, &pages, &mut line, &mut out, &mut input, state);
-    end_input(&mut pool, &pages, &line, &mut out, after);
+    let after = read_all(
+        &mut from, &mut pool, &pages, &mut line, &mut out, &mut input, state,
+    )?;
+    end_input(&mut pool, &pages, &line, &mut out, after)
 }

@@ -1,7 +1,6 @@
 -- `part`: a part that the test has shown to be there has its length.
 use native.Mathlib.Omega.{arith}
 use lib.ListN.{length-take}
-use borrow.Author.Rules.{rules}
 use Rattle.tables.proofs.part.Goals as goal
 
 pub slice_bounds-query-end : goal.slice_bounds-query-end

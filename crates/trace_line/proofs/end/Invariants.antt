@@ -1,6 +1,7 @@
 -- `end`: the index stays between the start and the line's length.
 use Prim.Native.Nat.{◌≤◌, ◌-◌}
 use lib.ListN.{length}
+use borrow.Author.Rules.{rules}
 use Rattle.trace_line.proofs.end.Given as goal
 
 abbrev pub invariant-loop-i : goal.invariant-loop-i

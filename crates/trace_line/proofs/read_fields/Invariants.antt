@@ -1,4 +1,5 @@
 -- `read_fields`: no more fields than there is room for.
+use borrow.Author.Rules.{rules}
 use Prim.Native.Nat.{◌≤◌, ◌-◌}
 use Rattle.trace_line.proofs.read_fields.Given as goal
 

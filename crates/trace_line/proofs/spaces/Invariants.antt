@@ -1,6 +1,7 @@
 -- `spaces`: there are no more spaces than bytes passed.
 use Prim.Native.Nat.{◌≤◌, ◌-◌}
 use lib.ListN.{length}
+use borrow.Author.Rules.{rules}
 use Rattle.trace_line.proofs.spaces.Given as goal
 
 abbrev pub invariant-loop-i : goal.invariant-loop-i

@@ -1,6 +1,7 @@
 -- `start`: the index stays within the line.
 use Prim.Native.Nat.{◌≤◌, ◌-◌}
 use lib.ListN.{length}
+use borrow.Author.Rules.{rules}
 use Rattle.trace_line.proofs.start.Given as goal
 
 abbrev pub invariant-loop-i : goal.invariant-loop-i

@@ -1,6 +1,7 @@
 -- `value`: the index stays within the text; the value has room for one digit more once its highest is dropped.
 use Prim.Native.Nat.{◌≤◌, ◌-◌}
 use lib.ListN.{length}
+use borrow.Author.Rules.{rules}
 use Rattle.trace_line.proofs.value.Given as goal
 
 abbrev pub invariant-loop-i : goal.invariant-loop-i

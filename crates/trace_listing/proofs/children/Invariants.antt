@@ -1,11 +1,9 @@
--- `children`: the index stays within the slots; the buffer keeps its length.
-use mathlib.Core.Path.{◌≡◌}
+-- `children`: the index stays within the slots.
 use Prim.Native.Nat.{◌≤◌, ◌-◌}
-use lib.ListN.{length}
 use Rattle.trace_listing.proofs.children.Given as goal
 
 abbrev pub invariant-loop-k : goal.invariant-loop-k
-invariant-loop-k l = (l.k ≤ 32) × (length l.out ≡ length l.initial.out)
+invariant-loop-k g l = l.k ≤ 32
 
 abbrev pub decreases-loop-k : goal.decreases-loop-k
-decreases-loop-k l = 32 - l.k
+decreases-loop-k g l = 32 - l.k

@@ -1,11 +1,10 @@
--- `page_flags`: the index stays within the flags; the buffer keeps its length.
-use mathlib.Core.Path.{◌≡◌}
+-- `page_flags`: the index stays within the flags.
 use Prim.Native.Nat.{◌≤◌, ◌-◌}
 use lib.ListN.{length}
 use Rattle.trace_listing.proofs.page_flags.Given as goal
 
 abbrev pub invariant-loop-i : goal.invariant-loop-i
-invariant-loop-i l = (l.i ≤ length l.pages) × (length l.out ≡ length l.initial.out)
+invariant-loop-i g l = l.i ≤ length l.pages
 
 abbrev pub decreases-loop-i : goal.decreases-loop-i
-decreases-loop-i l = length l.pages - l.i
+decreases-loop-i g l = length l.pages - l.i

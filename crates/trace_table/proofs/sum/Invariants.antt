@@ -1,5 +1,5 @@
 -- `sum`: the index stays within the pool.
-use Rattle.std.proofs.Common.{◌-◌, ◌≤◌, length, rules}
+use Rattle.std.proofs.Common.{◌-◌, ◌≤◌, length}
 use Rattle.trace_table.proofs.sum.Given as goal
 
 abbrev pub invariant-loop-i : goal.invariant-loop-i

@@ -1,5 +1,5 @@
 -- `zero`: the index stays within the words, whose number stays.
-use Rattle.std.proofs.Common.{◌≡◌, ◌-◌, ◌≤◌, length, rules}
+use Rattle.std.proofs.Common.{◌≡◌, ◌-◌, ◌≤◌, length}
 use Rattle.trace_table.proofs.zero.Given as goal
 
 abbrev pub invariant-loop-i : goal.invariant-loop-i
