@@ -296,9 +296,9 @@ effects p base used v G = record {
   updates = updates p base used v G;
   maps = maps p base used v G;
   map_answer = map_answer p base used v G;
-  unmap_refused_lem = unmap_refused_lem p (base / 4096) v;
-  update_refused_lem = update_refused_lem p (base / 4096) v;
-  map_refused_lem = map_refused_lem p (base / 4096) v used;
+  unmap_keeps = unmap_refused_lem p (base / 4096) v;
+  update_keeps = update_refused_lem p (base / 4096) v;
+  map_keeps = map_refused_lem p (base / 4096) v used;
 }
 
 pub effects_hold : EffectsHold

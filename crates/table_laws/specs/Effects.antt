@@ -66,9 +66,9 @@ pub record Effects (p : List ℕ) (base used v : ℕ) : Type 0 where
       → Adds p (mapped p (base / 4096) used v pa s f).pool base used' v (level_of s) (leaf_for s pa f)
   pub map_answer : (s : PageSize) (pa f : ℕ) → MapAnswer p base used v (level_of s) (mapped p (base / 4096) used v pa s f).result
   -- a refused call changes no word
-  pub unmap_refused_lem : (r : Refusal) → (unmapped p (base / 4096) v).result ≡ unmap.Refused r → (unmapped p (base / 4096) v).pool ≡ p
-  pub update_refused_lem : (n : NewAddr) (f : NewFlags) (r : Refusal) → (updated p (base / 4096) v n f).result ≡ update.Refused r → (updated p (base / 4096) v n f).pool ≡ p
-  pub map_refused_lem : (s : PageSize) (pa f : ℕ) (r : Refusal) → (mapped p (base / 4096) used v pa s f).result ≡ map.Refused r → (mapped p (base / 4096) used v pa s f).pool ≡ p
+  pub unmap_keeps : (r : Refusal) → (unmapped p (base / 4096) v).result ≡ unmap.Refused r → (unmapped p (base / 4096) v).pool ≡ p
+  pub update_keeps : (n : NewAddr) (f : NewFlags) (r : Refusal) → (updated p (base / 4096) v n f).result ≡ update.Refused r → (updated p (base / 4096) v n f).pool ≡ p
+  pub map_keeps : (s : PageSize) (pa f : ℕ) (r : Refusal) → (mapped p (base / 4096) used v pa s f).result ≡ map.Refused r → (mapped p (base / 4096) used v pa s f).pool ≡ p
 
 pub record EffectsHold : Type 0 where
   pub holds : (p : List ℕ) (base used v : ℕ) → Good p base used → Effects p base used v

@@ -181,10 +181,10 @@ keeps = record {
   allocate = λ s f id o len flags align out arrays. answered_step arrays refl (allocated_step s f id o len flags align arrays);
   map = λ s f p base used id o vmo vmo-len at len permissions flags faults out arrays x.
       (through_ordered arrays refl refl (ext_through base (before s f p base used) id o vmo vmo-len at len permissions flags false faults arrays) x).step;
-  mapping_flags_lem = λ s f id x out arrays. answered_step arrays refl (λ p. still arrays refl refl);
-  user_range_lem = λ s f id addr len access out arrays. answered_step arrays refl (λ p. still arrays refl refl);
-  vaddr_flags_lem = λ s f p base used id x out arrays. ordered_step arrays refl refl refl;
-  map_ext_lem = λ s f p base used id o vmo vmo-len at len permissions flags overwrite faults out arrays.
+  mapping_flags = λ s f id x out arrays. answered_step arrays refl (λ p. still arrays refl refl);
+  user_range = λ s f id addr len access out arrays. answered_step arrays refl (λ p. still arrays refl refl);
+  vaddr_flags = λ s f p base used id x out arrays. ordered_step arrays refl refl refl;
+  map_ext = λ s f p base used id o vmo vmo-len at len permissions flags overwrite faults out arrays.
       through_ordered arrays refl refl (ext_through base (before s f p base used) id o vmo vmo-len at len permissions flags overwrite faults arrays);
   unmap = λ s f p base used id addr len out arrays. through_ordered arrays refl refl (unmap_through s f p base used id addr len arrays);
   clear = λ s f p base used id itself out arrays. through_ordered arrays refl refl (clear_through s f p base used id itself arrays);
@@ -248,7 +248,7 @@ protect_means s f p base used id addr len access out fits q =
 
 pub means : Means
 means = record {
-  map_ext_lem = λ s f p base used id o vmo vmo-len at len permissions flags faults out x.
+  map_ext = λ s f p base used id o vmo vmo-len at len permissions flags faults out x.
       map_ext_means s f p base used id o vmo vmo-len at len permissions flags faults out
       (map_ext_is s f p base used id o vmo vmo-len at len permissions flags false faults out x);
   protect = λ s f p base used id addr len access out x. protect_means s f p base used id addr len access out (protect_is s f p base used id addr len access out x);

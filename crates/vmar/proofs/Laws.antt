@@ -21,10 +21,10 @@ pub once : Once
 once = record {
   allocate = λ s f id o len flags align a b x y. allocate_once a b (only x y);
   map = λ s f p base used id o vmo vmo-len at len permissions flags faults a b x y. map_once (before s f p base used) a b (only_ordered x y);
-  mapping_flags_lem = λ s f id x a b y z. flags_once a b (only y z);
-  user_range_lem = λ s f id addr len access a b x y. user_once a b (only x y);
-  vaddr_flags_lem = λ s f p base used id x a b y z. flags_once a b (only_ordered y z);
-  map_ext_lem = λ s f p base used id o vmo vmo-len at len permissions flags overwrite faults a b x y. ext_once a b (only_ordered x y);
+  mapping_flags = λ s f id x a b y z. flags_once a b (only y z);
+  user_range = λ s f id addr len access a b x y. user_once a b (only x y);
+  vaddr_flags = λ s f p base used id x a b y z. flags_once a b (only_ordered y z);
+  map_ext = λ s f p base used id o vmo vmo-len at len permissions flags overwrite faults a b x y. ext_once a b (only_ordered x y);
   cut = λ s f p base used does a b x y. cut_once a b (only_ordered x y);
   protect = λ s f p base used id addr len access a b x y. protect_once used a b (only_ordered x y);
 }

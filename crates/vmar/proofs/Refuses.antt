@@ -94,7 +94,7 @@ refuses = record {
   allocate = λ s f id o len flags align out why arrays x. allocate_refuses s f f 0 0 id o len flags align out why arrays (allocate_is s f id o len flags align out x);
   map = λ s f p base used id o vmo vmo-len at len permissions flags faults out why arrays x.
       map_refuses s f p base used id o vmo vmo-len at len permissions flags faults why arrays out (map_is s f p base used id o vmo vmo-len at len permissions flags faults out x);
-  map_ext_lem = λ s f p base used id o vmo vmo-len at len permissions flags overwrite faults out why arrays x.
+  map_ext = λ s f p base used id o vmo vmo-len at len permissions flags overwrite faults out why arrays x.
       ext_refuses s f p base used id o vmo vmo-len at len permissions flags faults why arrays overwrite out
       (map_ext_is s f p base used id o vmo vmo-len at len permissions flags overwrite faults out x);
   unmap = λ s f p base used id addr len out why arrays x.

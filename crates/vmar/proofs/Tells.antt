@@ -78,7 +78,7 @@ mapping_flags_lem s f id x out p fits =
     (λ l e. dead l e (sym (flags_dead s f id x (lt-ltb id s.nextid l) (eq-eqb (slot_of s id) 32 e))))
     (λ l h live n. alive l h
     (subst (FlagsAnswers s x (slot_of s id) (of_page s f x)) (flags_alive s f id x (slot_of s id) refl (lt-ltb id s.nextid l) (ne_eqb (slot_of s id) 32 n))
-    ((lookups.holds s f p).mapping_flags_lem x (slot_of s id) h live).answers)))
+    ((lookups.holds s f p).mapping x (slot_of s id) h live).answers)))
 
 vaddr_flags_lem : (s : Space) (f p : List ℕ) (base used id x : ℕ) (out : FlagsDone) → Passes s f → Good p base used → VaddrFits s f p base used id x out
     → LookupAnswers s id x (λ m. answered (queried p (base / 4096) x)) out.result
@@ -90,7 +90,7 @@ vaddr_flags_lem s f p base used id x out pass good fits =
     (λ l e. dead l e (sym (vaddr_dead s p base id x (lt-ltb id s.nextid l) (eq-eqb (slot_of s id) 32 e))))
     (λ l h live n. alive l h
     (subst (FlagsAnswers s x (slot_of s id) value) (vaddr_alive s p base id x (slot_of s id) refl (lt-ltb id s.nextid l) (ne_eqb (slot_of s id) 32 n))
-    ((lookups.holds s f pass).vaddr_flags_lem x (slot_of s id) h live p (base / 4096)).answers)))
+    ((lookups.holds s f pass).vaddr x (slot_of s id) h live p (base / 4096)).answers)))
 
 ready : (s : Space) (f p : List ℕ) (base used : ℕ) → Arrays s → Passes s f → Good p base used → Ready base (before s f p base used)
 ready s f p base used arrays pass good = record { arrays = arrays; passes = pass; good = good }
@@ -104,9 +104,9 @@ tells = record {
       subst (λ (d : MapDone). MapAnswers s id o vmo-len at len permissions flags faults d.result)
       (sym (map_once (before s f p base used) out (mapped s f id o vmo vmo-len at len permissions flags faults) (done_is pass good fits)))
       (maps.holds s f arrays pass id o vmo vmo-len at len permissions flags faults).answers;
-  mapping_flags_lem = mapping_flags_lem;
-  vaddr_flags_lem = vaddr_flags_lem;
-  user_range_lem = λ s f id addr len access out p fits.
+  mapping_flags = mapping_flags_lem;
+  vaddr_flags = vaddr_flags_lem;
+  user_range = λ s f id addr len access out p fits.
       subst (λ (d : UserRangeDone). UserRangeAnswers s f id addr len access d.result)
       (sym (user_once out (seen s (user_range s f id addr len access)) (taken_is p fits)))
       ((user_ranges.holds s f p).answers id addr len access);

@@ -44,10 +44,10 @@ pub record Once : Type 0 where
       → MapFits s f p base used id o vmo vmo-len at len permissions flags faults a
       → MapFits s f p base used id o vmo vmo-len at len permissions flags faults b
       → a ≡ b
-  pub mapping_flags_lem : (s : Space) (f : List ℕ) (id x : ℕ) (a b : FlagsDone) → FlagsFit s f id x a → FlagsFit s f id x b → a ≡ b
-  pub user_range_lem : (s : Space) (f : List ℕ) (id addr len access : ℕ) (a b : UserRangeDone) → UserRangeFits s f id addr len access a → UserRangeFits s f id addr len access b → a ≡ b
-  pub vaddr_flags_lem : (s : Space) (f p : List ℕ) (base used id x : ℕ) (a b : FlagsDone) → VaddrFits s f p base used id x a → VaddrFits s f p base used id x b → a ≡ b
-  pub map_ext_lem : (s : Space) (f p : List ℕ) (base used id : ℕ) (o : Offset) (vmo vmo-len at len permissions flags : ℕ) (overwrite faults : Bool) (a b : OverwriteDone)
+  pub mapping_flags : (s : Space) (f : List ℕ) (id x : ℕ) (a b : FlagsDone) → FlagsFit s f id x a → FlagsFit s f id x b → a ≡ b
+  pub user_range : (s : Space) (f : List ℕ) (id addr len access : ℕ) (a b : UserRangeDone) → UserRangeFits s f id addr len access a → UserRangeFits s f id addr len access b → a ≡ b
+  pub vaddr_flags : (s : Space) (f p : List ℕ) (base used id x : ℕ) (a b : FlagsDone) → VaddrFits s f p base used id x a → VaddrFits s f p base used id x b → a ≡ b
+  pub map_ext : (s : Space) (f p : List ℕ) (base used id : ℕ) (o : Offset) (vmo vmo-len at len permissions flags : ℕ) (overwrite faults : Bool) (a b : OverwriteDone)
       → MapExtFits s f p base used id o vmo vmo-len at len permissions flags overwrite faults a
       → MapExtFits s f p base used id o vmo vmo-len at len permissions flags overwrite faults b
       → a ≡ b
@@ -89,10 +89,10 @@ pub record Keeps : Type 0 where
       → AllocateFits s f id o len flags align out → Step s out.space f f
   pub map : (s : Space) (f p : List ℕ) (base used id : ℕ) (o : Offset) (vmo vmo-len at len permissions flags : ℕ) (faults : Bool) (out : MapDone) → Arrays s
       → MapFits s f p base used id o vmo vmo-len at len permissions flags faults out → Step s out.space f out.flags
-  pub mapping_flags_lem : (s : Space) (f : List ℕ) (id x : ℕ) (out : FlagsDone) → Arrays s → FlagsFit s f id x out → Step s out.space f f
-  pub user_range_lem : (s : Space) (f : List ℕ) (id addr len access : ℕ) (out : UserRangeDone) → Arrays s → UserRangeFits s f id addr len access out → Step s out.space f f
-  pub vaddr_flags_lem : (s : Space) (f p : List ℕ) (base used id x : ℕ) (out : FlagsDone) → Arrays s → VaddrFits s f p base used id x out → Step s out.space f f
-  pub map_ext_lem : (s : Space) (f p : List ℕ) (base used id : ℕ) (o : Offset) (vmo vmo-len at len permissions flags : ℕ) (overwrite faults : Bool) (out : OverwriteDone) → Arrays s
+  pub mapping_flags : (s : Space) (f : List ℕ) (id x : ℕ) (out : FlagsDone) → Arrays s → FlagsFit s f id x out → Step s out.space f f
+  pub user_range : (s : Space) (f : List ℕ) (id addr len access : ℕ) (out : UserRangeDone) → Arrays s → UserRangeFits s f id addr len access out → Step s out.space f f
+  pub vaddr_flags : (s : Space) (f p : List ℕ) (base used id x : ℕ) (out : FlagsDone) → Arrays s → VaddrFits s f p base used id x out → Step s out.space f f
+  pub map_ext : (s : Space) (f p : List ℕ) (base used id : ℕ) (o : Offset) (vmo vmo-len at len permissions flags : ℕ) (overwrite faults : Bool) (out : OverwriteDone) → Arrays s
       → MapExtFits s f p base used id o vmo vmo-len at len permissions flags overwrite faults out → Through base (before s f p base used) out.state
   pub unmap : (s : Space) (f p : List ℕ) (base used id addr len : ℕ) (out : CutDone) → Arrays s → UnmapFits s f p base used id addr len out
       → Through base (before s f p base used) out.state
@@ -115,7 +115,7 @@ pub record Means : Type 0 where
       → MapFits s f p base used id o vmo vmo-len at len permissions flags faults out → (addr : ℕ) → out.result ≡ map.Mapped addr
       → maps.Accepted s out.space f out.flags (slot_of s id) addr o vmo vmo-len at len permissions flags faults
   -- map_ext that does not: as `map`, and the table stays
-  pub map_ext_lem : (s : Space) (f p : List ℕ) (base used id : ℕ) (o : Offset) (vmo vmo-len at len permissions flags : ℕ) (faults : Bool) (out : OverwriteDone)
+  pub map_ext : (s : Space) (f p : List ℕ) (base used id : ℕ) (o : Offset) (vmo vmo-len at len permissions flags : ℕ) (faults : Bool) (out : OverwriteDone)
       → MapExtFits s f p base used id o vmo vmo-len at len permissions flags false faults out
       → (d : MapDone) × MapFits s f p base used id o vmo vmo-len at len permissions flags faults d × (out ≡ beside_table (before s f p base used) d)
   -- protect, by what it does on a space that passes and a good pool: vmar_protect/specs/Laws
@@ -140,10 +140,10 @@ pub record Tells : Type 0 where
   pub map : (s : Space) (f p : List ℕ) (base used id : ℕ) (o : Offset) (vmo vmo-len at len permissions flags : ℕ) (faults : Bool) (out : MapDone) → Arrays s
       → Passes s f → Good p base used → MapFits s f p base used id o vmo vmo-len at len permissions flags faults out
       → MapAnswers s id o vmo-len at len permissions flags faults out.result
-  pub mapping_flags_lem : (s : Space) (f : List ℕ) (id x : ℕ) (out : FlagsDone) → Passes s f → FlagsFit s f id x out → LookupAnswers s id x (of_page s f x) out.result
-  pub vaddr_flags_lem : (s : Space) (f p : List ℕ) (base used id x : ℕ) (out : FlagsDone) → Passes s f → Good p base used → VaddrFits s f p base used id x out
+  pub mapping_flags : (s : Space) (f : List ℕ) (id x : ℕ) (out : FlagsDone) → Passes s f → FlagsFit s f id x out → LookupAnswers s id x (of_page s f x) out.result
+  pub vaddr_flags : (s : Space) (f p : List ℕ) (base used id x : ℕ) (out : FlagsDone) → Passes s f → Good p base used → VaddrFits s f p base used id x out
       → LookupAnswers s id x (λ m. answered (queried p (base / 4096) x)) out.result
-  pub user_range_lem : (s : Space) (f : List ℕ) (id addr len access : ℕ) (out : UserRangeDone) → Passes s f → UserRangeFits s f id addr len access out
+  pub user_range : (s : Space) (f : List ℕ) (id addr len access : ℕ) (out : UserRangeDone) → Passes s f → UserRangeFits s f id addr len access out
       → UserRangeAnswers s f id addr len access out.result
   pub overwrite : (s : Space) (f p : List ℕ) (base used id : ℕ) (o : Offset) (vmo vmo-len at len permissions flags : ℕ) (faults : Bool) (out : OverwriteDone) → Arrays s
       → Passes s f → Good p base used → MapExtFits s f p base used id o vmo vmo-len at len permissions flags true faults out
@@ -160,7 +160,7 @@ pub record Tells : Type 0 where
 pub record Refuses : Type 0 where
   pub allocate : (s : Space) (f : List ℕ) (id : ℕ) (o : Offset) (len flags align : ℕ) (out : Allocation) (why : Refusal) → Arrays s
       → AllocateFits s f id o len flags align out → out.result ≡ allocate.Refused why → out.space ≡ s
-  pub map_ext_lem : (s : Space) (f p : List ℕ) (base used id : ℕ) (o : Offset) (vmo vmo-len at len permissions flags : ℕ) (overwrite faults : Bool) (out : OverwriteDone) (why : Refusal)
+  pub map_ext : (s : Space) (f p : List ℕ) (base used id : ℕ) (o : Offset) (vmo vmo-len at len permissions flags : ℕ) (overwrite faults : Bool) (out : OverwriteDone) (why : Refusal)
       → Arrays s → MapExtFits s f p base used id o vmo vmo-len at len permissions flags overwrite faults out → out.result ≡ map.Refused why → out.state ≡ before s f p base used
   pub map : (s : Space) (f p : List ℕ) (base used id : ℕ) (o : Offset) (vmo vmo-len at len permissions flags : ℕ) (faults : Bool) (out : MapDone) (why : Refusal) → Arrays s
       → MapFits s f p base used id o vmo vmo-len at len permissions flags faults out → out.result ≡ map.Refused why → (out.space ≡ s) × (out.flags ≡ f)

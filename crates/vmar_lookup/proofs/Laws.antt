@@ -57,7 +57,7 @@ lookups = record {
     found_holds = λ x r m l a. ends.found_holds s x 32 r m (live s flags p x r l a);
     found_inside = λ x r m l a e. let end = ends.ended s x 32 r m (live s flags p x r l a) e in (end.from, end.to);
     depth = λ x. depths.depth s flags p x;
-    mapping_flags_lem = λ x r l a. one_answer s flags p x r l a _ (page_flags s flags x) (λ m. refl) (λ why. refl);
-    vaddr_flags_lem = λ x r l a q b. one_answer s flags p x r l a _ (table_flags q b x) (λ m. refl) (λ why. refl);
+    mapping = λ x r l a. one_answer s flags p x r l a _ (page_flags s flags x) (λ m. refl) (λ why. refl);
+    vaddr = λ x r l a q b. one_answer s flags p x r l a _ (table_flags q b x) (λ m. refl) (λ why. refl);
   };
 }

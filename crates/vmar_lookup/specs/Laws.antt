@@ -45,8 +45,8 @@ pub record Lookups (s : Space) (flags : List ℕ) : Type 0 where
   -- the depth of 32 never bites: no greater one finds another thing
   pub depth : (x d k : ℕ) → k < s.regcount → 32 ≤ d → look s x 32 (region_place s k) ≡ look s x d (region_place s k)
   -- `get_mapping_flags` in a live region answers the flags of the page, `get_vaddr_flags` what the table answers at x
-  pub mapping_flags_lem : (x r : ℕ) → r < 32 → is_region s r ≡ true → OneAnswer s x r (of_page s flags x) (mapping_flags s flags x r)
-  pub vaddr_flags_lem : (x r : ℕ) → r < 32 → is_region s r ≡ true → (p : List ℕ) (b : ℕ) → OneAnswer s x r (λ m. answered (queried p b x)) (vaddr_flags s p b x r)
+  pub mapping : (x r : ℕ) → r < 32 → is_region s r ≡ true → OneAnswer s x r (of_page s flags x) (mapping_flags s flags x r)
+  pub vaddr : (x r : ℕ) → r < 32 → is_region s r ≡ true → (p : List ℕ) (b : ℕ) → OneAnswer s x r (λ m. answered (queried p b x)) (vaddr_flags s p b x r)
 
 pub record LookupsAll : Type 0 where
   pub holds : (s : Space) (flags : List ℕ) → Passes s flags → Lookups s flags

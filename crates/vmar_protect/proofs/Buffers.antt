@@ -33,7 +33,7 @@ update_good p base used v n f G = by (updated p (base / 4096) v n f).result refl
   where
     by : (r : UpdateResult) → (updated p (base / 4096) v n f).result ≡ r → Good (updated p (base / 4096) v n f).pool base used
     by (update.Updated z) e = ((effects p base used v G).updates n f z e).2.good
-    by (update.Refused why) e = subst (λ (x : List ℕ). Good x base used) (sym ((effects p base used v G).update_refused_lem n f why e)) G
+    by (update.Refused why) e = subst (λ (x : List ℕ). Good x base used) (sym ((effects p base used v G).update_keeps n f why e)) G
 
 -- and as long as it was
 pub update_length : (p : List ℕ) (b v : ℕ) (n : NewAddr) (f : NewFlags) → length (updated p b v n f).pool ≡ length p

@@ -36,7 +36,7 @@ module _ (s : Space) (f : List ℕ) (p : Passes s f) (r : ℕ) (l : r < 32) (a :
 
   -- an address is usable, or there is a reason why not
   usable? : (access x : ℕ) → Usable s f r access x ⊎ ((why : Refusal) × NotUsable s f r access x why)
-  usable? access x = by _ (laws.mapping_flags_lem x r l a).answers
+  usable? access x = by _ (laws.mapping x r l a).answers
     where
       by : (y : FlagsResult) → FlagsAnswers s x r (of_page s f x) y → Usable s f r access x ⊎ ((why : Refusal) × NotUsable s f r access x why)
       by y (lookup.outside c) = inr (NotFound, outside c)
@@ -53,7 +53,7 @@ module _ (s : Space) (f : List ℕ) (p : Passes s f) (r : ℕ) (l : r < 32) (a :
   -- a page is judged by what a lookup at its first address in the range answers
   by_lookup : (addr access page : ℕ) (y : FlagsResult) → FlagsAnswers s (start_of addr page) r (of_page s f (start_of addr page)) y → verdict s f r addr access page ≡ judged access y
   unfolding verdict
-  by_lookup addr access page y w = ap (judged access) (sym ((laws.mapping_flags_lem (start_of addr page) r l a).only y w))
+  by_lookup addr access page y w = ap (judged access) (sym ((laws.mapping (start_of addr page) r l a).only y w))
 
   usable_page : (addr access page : ℕ) → Usable s f r access (start_of addr page) → verdict s f r addr access page ≡ Allowed
   usable_page addr access page u = by_lookup addr access page _ (lookup.held u.region u.mapping u.held) ∙ rw (u.user, u.granted)
