@@ -2,7 +2,7 @@
 // table is cut in the Rust's order, and the page flags and the space follow.
 #![tactic(auto)]
 
-ghost use Rattle.std.specs.Prelude.{◌≡◌, true, false, ◌+◌, ◌*◌, ◌/◌, ◌%◌, ◌≤◌, ◌<◌, length, set};
+ghost use Rattle.std.specs.Prelude.{◌≡◌, true, false, ◌+◌, ◌*◌, ◌/◌, ◌%◌, ◌≤◌, ◌<◌, length, set, eqb};
 ghost use Rattle.paging.specs.Choice.{pick};
 ghost use Rattle.form.specs.Form.{Good};
 ghost use Rattle.scan.specs.Scan.{some};
@@ -197,6 +197,13 @@ fn unmap_in(
     unmap_inner(s, pages, pool, base, used, r, addr, end, is_short)
 }
 
+// Whether a range of the length is empty.
+fn is_empty(len: u64) -> bool
+    ensures { result ≡ eqb len 0 }
+{
+    len == 0
+}
+
 // Unmaps what lies in the range and destroys the children within it.
 pub fn unmap(
     s: Space,
@@ -220,7 +227,7 @@ pub fn unmap(
     if !vm::page_aligned(len) {
         return refuse(s, used, Refusal::InvalidArgs);
     }
-    if len == 0 {
+    if is_empty(len) {
         return refuse(s, used, Refusal::InvalidArgs);
     }
     unmap_in(s, pages, pool, base, used, id, addr, len)

@@ -27,12 +27,12 @@ returns-then-not-page_aligned-2 c =
     ap (λ (x : CutOutcome). done x a.pages.now a.pool.now) c.refuse-then-not-page_aligned-2.ensures
     ∙ unmap_odd_length a.base st a.id a.addr a.len (lt-ltb _ _ c.if-s-id.false) (sym c.page_aligned.ensures ∙ not-false c.page_aligned.result c.if-not-page_aligned.false-raw) (sym c.page_aligned-2.ensures ∙ not-true c.page_aligned-2.result c.if-not-page_aligned-2.true-raw)
 
-pub returns-then-len-eq0 : goal.returns-then-len-eq0
-returns-then-len-eq0 c =
+pub returns-then-is_empty : goal.returns-then-is_empty
+returns-then-is_empty c =
     let a = c.args in
     let st : State = record { space = a.s; flags = a.pages.now; pool = a.pool.now; used = a.used } in
-    ap (λ (x : CutOutcome). done x a.pages.now a.pool.now) c.refuse-then-len-eq0.ensures
-    ∙ unmap_nothing a.base st a.id a.addr a.len (lt-ltb _ _ c.if-s-id.false) (sym c.page_aligned.ensures ∙ not-false c.page_aligned.result c.if-not-page_aligned.false-raw) (sym c.page_aligned-2.ensures ∙ not-false c.page_aligned-2.result c.if-not-page_aligned-2.false-raw) c.if-len-eq0.true
+    ap (λ (x : CutOutcome). done x a.pages.now a.pool.now) c.refuse-then-is_empty.ensures
+    ∙ unmap_nothing a.base st a.id a.addr a.len (lt-ltb _ _ c.if-s-id.false) (sym c.page_aligned.ensures ∙ not-false c.page_aligned.result c.if-not-page_aligned.false-raw) (sym c.page_aligned-2.ensures ∙ not-false c.page_aligned-2.result c.if-not-page_aligned-2.false-raw) (sym c.is_empty.ensures ∙ c.if-is_empty.true)
 
 pub unmap_in-requires : goal.unmap_in-requires
 unmap_in-requires c = let a = c.args in let pre = c.requires in (pre.0, pre.1, whole_pages a.addr (sym c.page_aligned.ensures ∙ not-false c.page_aligned.result c.if-not-page_aligned.false-raw), whole_pages a.len (sym c.page_aligned-2.ensures ∙ not-false c.page_aligned-2.result c.if-not-page_aligned-2.false-raw))
@@ -42,4 +42,4 @@ returns c =
     let a = c.args in
     let st : State = record { space = a.s; flags = a.pages.now; pool = a.pool.now; used = a.used } in
     c.unmap_in.ensures
-    ∙ unmap_some a.base st a.id a.addr a.len (lt-ltb _ _ c.if-s-id.false) (sym c.page_aligned.ensures ∙ not-false c.page_aligned.result c.if-not-page_aligned.false-raw) (sym c.page_aligned-2.ensures ∙ not-false c.page_aligned-2.result c.if-not-page_aligned-2.false-raw) c.if-len-eq0.false
+    ∙ unmap_some a.base st a.id a.addr a.len (lt-ltb _ _ c.if-s-id.false) (sym c.page_aligned.ensures ∙ not-false c.page_aligned.result c.if-not-page_aligned.false-raw) (sym c.page_aligned-2.ensures ∙ not-false c.page_aligned-2.result c.if-not-page_aligned-2.false-raw) (sym c.is_empty.ensures ∙ c.if-is_empty.false)
