@@ -137,13 +137,13 @@ module _ (base : ℕ) (st : State) (id addr len : ℕ) where
       unmap_odd_length l = rw (i, a, l)
 
       module _ (l : multiple len 4096 ≡ true) where
-        pub unmap_nothing : eqb len 0 ≡ true → refused st InvalidArgs ≡ unmapped base st id addr len
+        pub unmap_nothing : len ≡ 0 → refused st InvalidArgs ≡ unmapped base st id addr len
         unfolding unmapped
-        unmap_nothing z = rw (i, a, l, z)
+        unmap_nothing z = rw (i, a, l, eq-eqb len 0 z)
 
-        pub unmap_some : eqb len 0 ≡ false → in_region base st id addr len ≡ unmapped base st id addr len
+        pub unmap_some : (len ≡ 0 → ⊥) → in_region base st id addr len ≡ unmapped base st id addr len
         unfolding unmapped
-        unmap_some z = rw (i, a, l, z)
+        unmap_some z = rw (i, a, l, ne_eqb len 0 z)
 
 module _ (base : ℕ) (st : State) (r : ℕ) (itself : Bool) where
   pub clear_dead : has_dead st.space ≡ true → refused st ChildDead ≡ cleared base st r itself
