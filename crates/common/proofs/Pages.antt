@@ -1,10 +1,7 @@
 -- What a page size contributes: shown once by its level, and cited for all three.
-use Prim.Native.Nat.{ℕ, ◌+◌, ◌-◌, ◌*◌, ◌%◌, ◌^◌, ◌≤◌, ◌<◌}
-use mathlib.Core.Path.{◌≡◌, refl, ap, ◌∙◌}
-use native.Mathlib.Omega.{arith}
-use native.Mathlib.Nat.{div-add-mod', mod-eq_of_lt}
-use lib.Bits.{bit_and, and_mask, and_high}
-use lib.Pow.{pow_pos, shr_lt}
+use Rattle.std.proofs.Common.{ℕ, ◌+◌, ◌-◌, ◌*◌, ◌%◌, ◌^◌, ◌≤◌, ◌<◌, ◌≡◌, refl, ap, ◌∙◌, arith, div-add-mod', mod-eq_of_lt, bit_and, pow_pos, shr_lt}
+use Rattle.std.proofs.lemmas.Nat.{and_mask}
+use Rattle.std.proofs.lemmas.Nat.Bits.{and_high}
 use Rattle.paging.specs.Level.{span}
 use Rattle.common.specs.Page.{level_of, size_of, Sizes}
 use Rattle.common.specs.declared.vm.PageSize.{PageSize}

@@ -1,10 +1,6 @@
 -- Sets of flags as masks and as sums of their members.
-use Prim.Native.Nat.{ℕ, ◌+◌, ◌*◌, ◌/◌, ◌%◌, ◌<◌}
-use mathlib.Core.Path.{◌≡◌, ◌∙◌}
-use mathlib.Core.Bool.{true}
-use native.Mathlib.Omega.{arith}
-use lib.Bits.{bit_and, and_high}
-use borrow.Author.Tests.{eqb-true}
+use Rattle.std.proofs.Common.{ℕ, ◌+◌, ◌*◌, ◌/◌, ◌%◌, ◌<◌, ◌≡◌, ◌∙◌, true, arith, bit_and, eqb-true}
+use Rattle.std.proofs.lemmas.Nat.Bits.{and_high}
 use Rattle.common.specs.Flags.{of_five, known_page}
 
 -- the five page flags are bits 2 to 6: one bit after the other

@@ -10,7 +10,7 @@ pub type VirtAddr = u64;
 pub const PAGE_SIZE: u64 = 0x1000;
 
 // Page flags. A set of them is the sum of its members.
-#[derive(Clone, Copy)]
+#[derive(Clone, Copy, Debug, PartialEq, Eq)]
 pub struct MMUFlags(pub u64);
 
 impl MMUFlags {
@@ -46,7 +46,7 @@ impl MMUFlags {
 }
 
 // Region flags, which say what a region allows of its children and mappings.
-#[derive(Clone, Copy)]
+#[derive(Clone, Copy, Debug, PartialEq, Eq)]
 pub struct VmarFlags(pub u64);
 
 impl VmarFlags {
@@ -70,7 +70,7 @@ impl VmarFlags {
     // All nine.
     pub const ALL: VmarFlags = VmarFlags(0x1ff);
 
-    // Whether no bit but the nine is set.
+    // Whether no bit but the nine is set. A trait for both kinds of flags would take two ghost members, a law and two impls for this line.
     pub fn is_known(self) -> bool
         ensures { result ≡ known_region self.0 }
     {

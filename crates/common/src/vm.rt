@@ -4,7 +4,7 @@ ghost use Rattle.common.specs.Page.{size_of, aligned, is_huge};
 
 use crate::defs::VirtAddr;
 
-#[derive(Clone, Copy)]
+#[derive(Clone, Copy, Debug, PartialEq, Eq)]
 pub enum PageSize {
     Size4K,
     Size2M,

@@ -1,11 +1,5 @@
 -- The answer when every rank has had its turn.
-use Prim.Native.Nat.{ℕ, zero, suc, ◌+◌, ◌-◌, ◌≤◌, ◌<◌}
-use mathlib.Core.Path.{◌≡◌, sym, ap, ◌∙◌, subst}
-use mathlib.Core.Logic.{⊎_elim}
-use mathlib.Core.List.{List}
-use mathlib.Core.Bool.{Bool, true, false}
-use native.Mathlib.Omega.{arith}
-use lib.ListN.{get_or}
+use Rattle.std.proofs.Common.{ℕ, zero, suc, ◌+◌, ◌-◌, ◌≤◌, ◌<◌, ◌≡◌, sym, ap, ◌∙◌, subst, ⊎_elim, List, Bool, true, false, arith, get_or}
 use Rattle.paging.specs.Choice.{Decided}
 use Rattle.paging.specs.Format.{table}
 use Rattle.paging.proofs.Cases.{same?}

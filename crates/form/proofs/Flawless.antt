@@ -1,11 +1,7 @@
 -- What a word without flaws is.
-use Prim.Native.Nat.{ℕ, zero, suc, ◌-◌, ◌*◌, ◌/◌, ◌%◌, ◌^◌, ◌≤◌, ◌<◌}
-use mathlib.Core.Path.{◌≡◌, refl, sym, ap, ◌∙◌, subst}
-use mathlib.Core.Logic.{◌⊎◌, inl, inr}
-use native.Mathlib.Omega.{arith}
-use native.Mathlib.Nat.{mod-lt}
-use lib.Dec.{lit<}
-use lib.Bits.{bit_and, bit_or, bit_xor, or_add_and, xor_add_and, and_le_l, and_le_r, and_mask, and_zero_r, or_zero_r}
+use Rattle.std.proofs.Common.{ℕ, zero, suc, ◌-◌, ◌*◌, ◌/◌, ◌%◌, ◌^◌, ◌≤◌, ◌<◌, ◌≡◌, refl, sym, ap, ◌∙◌, subst, ◌⊎◌, inl, inr, arith, mod-lt, lit<, bit_and, bit_or, bit_xor}
+use Rattle.std.specs.Int.Bits.{or_add_and, xor_add_and, and_zero_r, or_zero_r}
+use Rattle.std.proofs.lemmas.Nat.{and_comm, and_le_l, and_le_r, and_mask}
 use Rattle.form.specs.Sure.{Plain}
 use Rattle.form.proofs.Leaves.{top_lt}
 
@@ -46,11 +42,25 @@ agrees (suc zero) (suc (suc y)) z h i j = absurd (omega arith)
 agrees (suc (suc x)) y z h i j = absurd (omega arith)
 
 module _ (w : ℕ) (hw : w < 2 ^ 64) where
+  -- as the code computes it
   abbrev at : ℕ
-  at = agree (w % 2) (w / 2 % 2) (w / 2 ^ 63)
+  at = bit_or (bit_and w 1) (bit_and (w / 2 ^ 63) (0xffffffffffffffff - w / 2))
+
+  at_agree : at ≡ agree (w % 2) (w / 2 % 2) (w / 2 ^ 63)
+  at_agree = ap (λ (x : ℕ). bit_or x (bit_and (w / 2 ^ 63) (0xffffffffffffffff - w / 2))) (and_mask w 1) ∙ ap (bit_or (w % 2)) (low (w / 2 ^ 63) (top_lt w hw))
+    where
+      one : (n : ℕ) → bit_and 1 n ≡ n % 2
+      one n = and_comm 1 n ∙ and_mask n 1
+
+      low : (z : ℕ) → z < 2 → bit_and z (0xffffffffffffffff - w / 2) ≡ bit_and z (1 - w / 2 % 2)
+      low zero h = omega (arith, and_le_l 0 (0xffffffffffffffff - w / 2), and_le_l 0 (1 - w / 2 % 2))
+      low (suc zero) h = one (0xffffffffffffffff - w / 2) ∙ omega arith ∙ sym (one (1 - w / 2 % 2))
+      low (suc (suc z)) h = absurd (omega arith)
 
   at_is : Agree at (w % 2) (w / 2 % 2) (w / 2 ^ 63)
-  at_is = agrees (w % 2) (w / 2 % 2) (w / 2 ^ 63) (mod-lt w (lit< tt)) (mod-lt (w / 2) (lit< tt)) (top_lt w hw)
+  at_is =
+      subst (λ (g : ℕ). Agree g (w % 2) (w / 2 % 2) (w / 2 ^ 63)) (sym at_agree)
+      (agrees (w % 2) (w / 2 % 2) (w / 2 ^ 63) (mod-lt w (lit< tt)) (mod-lt (w / 2) (lit< tt)) (top_lt w hw))
 
   pub agree_le : at ≤ 1
   agree_le = le at at_is

@@ -1,17 +1,11 @@
 -- What the comparison tells is a leaf of its level: every bit that the mask has is as the rules write it, and the others are free.
-use Prim.Native.Nat.{ℕ, ◌+◌, ◌-◌, ◌*◌, ◌/◌, ◌%◌, ◌^◌, ◌≤◌, ◌<◌, min}
-use mathlib.Core.Path.{◌≡◌, refl, sym, ap, ◌∙◌}
-use mathlib.Core.Logic.{◌⊎◌, inl, inr}
-use mathlib.Core.Bool.{true}
-use native.Mathlib.Omega.{arith}
-use native.Mathlib.Nat.{mod-lt, mod-mod}
-use lib.Dec.{ltb, lit<, lit≤}
-use lib.Bits.{bit_and, and_shr, and_mod, and_mask, and_zero_r}
-use borrow.Author.Tests.{eq-eqb}
+use Rattle.std.proofs.Common.{ℕ, ◌+◌, ◌-◌, ◌*◌, ◌/◌, ◌%◌, ◌^◌, ◌≤◌, ◌<◌, min, ◌≡◌, refl, sym, ap, ◌∙◌, ◌⊎◌, inl, inr, true, arith, ltb, lit<, lit≤, bit_and, eq-eqb}
+use Rattle.std.proofs.Math.Nat.{mod-mod}
+use Rattle.std.proofs.lemmas.Nat.{and_shr, and_mod, and_mask}
 use Rattle.paging.specs.Level.{span}
 use Rattle.paging.specs.Format.{Entry, page}
 use Rattle.x86_64.specs.Entry.{bit, frame_of, addr_of, marks_of, flags_of, rights, huge_bit, is_leaf, x86}
-use Rattle.x86_64.proofs.Words.{addr_lt, marks_lt, FlagParts, flag_parts}
+use Rattle.x86_64.proofs.Words.{bit_lt, not_not, addr_lt, marks_lt, FlagParts, flag_parts}
 use Rattle.form.specs.Sure.{Told, Sure}
 
 -- where the mask has all j bits from k up, they are the word's
@@ -56,12 +50,6 @@ sums w a b c d e f g h n q0 q1 q2 q3 q4 q5 x p0 p1 p2 p3 p4 p5 p6 p7 p8 p9 = ome
 any_right_lem : (x y n : ℕ) → x < 2 → y < 2 → n < 2 → (x ≡ 1) ⊎ ((y ≡ 0) × (n ≡ 1)) → min 1 (x + y + (1 - n)) ≡ x
 any_right_lem x y n a b c (inl e) = omega arith
 any_right_lem x y n a b c (inr e) = omega arith
-
-not_not : (c : ℕ) → c < 2 → 1 - (1 - c) ≡ c
-not_not c h = omega arith
-
-bit_lt : (n w : ℕ) → bit n w < 2
-bit_lt n w = mod-lt (w / 2 ^ n) (lit< tt)
 
 -- bit 0 is set, or neither WRITE nor EXECUTE is given
 abbrev Agree : ℕ → Type 0
@@ -143,7 +131,3 @@ sure_1g = record {
       let al : w / 2 ^ 12 % 2 ^ 18 ≡ 0 = f 12 18 refl in
       sure_of w 0x7ff000003fffff98 0x280 t 1 2 (lit< tt) (f 3 2 refl) (f 7 5 refl) (f 52 11 refl) (lit≤ tt) (omega arith) refl;
 }
-
--- nothing passes
-pub sure_none : (l : ℕ) → Sure l 0 1
-sure_none l = record { leaves = λ w t. absurd (omega (arith, t.bits, and_zero_r w)) }

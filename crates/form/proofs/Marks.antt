@@ -1,11 +1,5 @@
 -- What one word does, by the tests that the code makes of it.
-use Prim.Native.Nat.{ℕ, ◌+◌, ◌-◌, ◌*◌, ◌/◌, ◌%◌, ◌≤◌, ◌<◌}
-use mathlib.Core.Path.{◌≡◌, sym, ap, ◌∙◌, subst}
-use mathlib.Core.Logic.{inl, inr}
-use mathlib.Core.List.{List}
-use mathlib.Core.Bool.{true, false}
-use native.Mathlib.Omega.{arith}
-use lib.ListN.{get_or, set}
+use Rattle.std.proofs.Common.{ℕ, ◌+◌, ◌-◌, ◌*◌, ◌/◌, ◌%◌, ◌≤◌, ◌<◌, ◌≡◌, sym, ap, ◌∙◌, subst, inl, inr, List, true, false, arith, get_or, set}
 use Rattle.paging.specs.Format.{table, Entry, blank}
 use Rattle.x86_64.specs.Entry.{frame_of, addr_of, is_leaf, x86}
 use Rattle.form.specs.Sure.{Plain, Sure}

@@ -1,12 +1,5 @@
 -- Why each refusal is right, and what one word's step gives.
-use Prim.Native.Nat.{ℕ, suc, ◌+◌, ◌-◌, ◌*◌, ◌≤◌, ◌<◌}
-use mathlib.Core.Path.{◌≡◌, refl, sym, ap, ◌∙◌, subst}
-use mathlib.Core.Logic.{◌⊎◌, ⊎_elim}
-use mathlib.Core.List.{List}
-use mathlib.Core.Bool.{Bool}
-use native.Mathlib.Omega.{arith}
-use lib.ListN.{get_or}
-use lib.Seq.{get_or-set_other}
+use Rattle.std.proofs.Common.{ℕ, suc, ◌+◌, ◌-◌, ◌*◌, ◌≤◌, ◌<◌, ◌≡◌, refl, sym, ap, ◌∙◌, subst, ◌⊎◌, ⊎_elim, List, Bool, arith, get_or, get_or-set_other}
 use Rattle.paging.specs.Format.{table, Entry}
 use Rattle.x86_64.specs.Entry.{x86}
 use Rattle.pool.specs.Pool.{word, Taken}

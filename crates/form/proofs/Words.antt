@@ -1,10 +1,5 @@
 -- The kind of an entry by the tests that the code makes of its word.
-use Prim.Native.Nat.{ℕ, ◌<◌}
-use mathlib.Core.Path.{◌≡◌, subst}
-use mathlib.Core.Bool.{Bool, true, false, ◌&&◌}
-use native.Mathlib.Omega.{arith}
-use lib.Dec.{ltb, leb}
-use borrow.Author.Tests.{eq-eqb, ne_eqb, eqb-true}
+use Rattle.std.proofs.Common.{ℕ, ◌<◌, ◌≡◌, subst, Bool, true, false, ◌&&◌, arith, ltb, leb, eq-eqb, ne_eqb, eqb-true}
 use Rattle.paging.specs.Choice.{pick}
 use Rattle.paging.specs.Format.{nothing, leaf, table, Entry}
 use Rattle.paging.proofs.Formats.{Is, is}
@@ -16,7 +11,7 @@ table_inj e = cc
 
 pub zero_plain : (l w m : ℕ) → w ≡ 0 → x86.kind l w ≡ table m → ⊥
 unfolding x86
-zero_plain l w m u k = let t : nothing ≡ table m = rw (eq-eqb w 0 u) at k in let z : ◌≡◌ {A = ℕ} 0 1 = cc in omega arith
+zero_plain l w m u k = let t : nothing ≡ table m = rw (eq-eqb w 0 u) at k in cc
 
 pub leaf_pos : (w : ℕ) → is_leaf w ≡ true → 0 < w
 leaf_pos w b = omega (arith, eqb-true (bit 9 w) 1 b)
@@ -26,8 +21,8 @@ unfolding x86
 leaf_plain l w m u b k = go (leb l 2) (rw (ne_eqb w 0 (λ z. omega arith), b) at k)
   where
     go : (c : Bool) → pick c leaf nothing ≡ table m → ⊥
-    go true e = let z : ◌≡◌ {A = ℕ} 0 1 = cc in omega arith
-    go false e = let z : ◌≡◌ {A = ℕ} 0 1 = cc in omega arith
+    go true e = cc
+    go false e = cc
 
 -- an entry that is neither 0 nor a leaf is a table
 pub table_of : (l w : ℕ) → 0 < w → is_leaf w ≡ false → Entry x86 l w → x86.kind l w ≡ table (frame_of w)

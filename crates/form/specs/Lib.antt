@@ -1,3 +1,4 @@
 pub mod Form
 pub mod Sweep
 pub mod Sure
+pub mod Lent

@@ -1,4 +1,5 @@
 -- What is proved of the range calls as a whole.
+use Rattle.std.specs.Prelude.{Err, Ok, Result}
 use Prim.Native.Nat.{ℕ, ◌+◌, ◌/◌, ◌≤◌, ◌<◌}
 use mathlib.Core.Path.{◌≡◌, refl, sym, ap, ◌∙◌, subst}
 use mathlib.Core.Bool.{Bool, true, false}
@@ -13,14 +14,12 @@ use Rattle.form.specs.Form.{Good}
 use Rattle.refusal.specs.declared.Refusal.{Refusal}
 use Rattle.refusal.specs.declared.Refusal.TheVariants.{InvalidArgs, BadAddress, NoFrames}
 use Rattle.table_map.specs.Map.{Mapping}
-use Rattle.table_map.specs.declared.MapResult.TheVariants.{Mapped, Refused}
 use Rattle.table_map_cont.specs.MapCont.{map_cont}
 use Rattle.table_map_cont.specs.Laws.{MapsRange}
 use Rattle.table_map_cont.proofs.Steps.{not_both}
 use Rattle.table_map_cont.proofs.Ranges.{ranges, cont_keeps}
 use Rattle.table_unmap_cont.specs.UnmapCont.{unmap_cont, ContUnmapping}
 use Rattle.table_unmap_cont.specs.Demand.{frames_for, free, CutOut, Demand}
-use Rattle.table_unmap_cont.specs.declared.UnmapContResult.TheVariants as cut
 use Rattle.table_unmap_cont.proofs.Calls as cont
 use Rattle.table_unmap_cont.proofs.Demand.{demands}
 use Rattle.page_table.specs.Calls.{map_refused}
@@ -33,10 +32,10 @@ use Rattle.generic_page_table.proofs.Calls.{cut_core}
 use Rattle.generic_page_table.proofs.Replies.{unmap_cont_once, MapContIs, map_cont_is, UnmapContIs, unmap_cont_is}
 
 -- a refusal is no success, and a success tells the frames taken
-no_cut : {r : Refusal} {t : ℕ} → cut.Refused r ≡ cut.Unmapped t → ⊥
+no_cut : {r : Refusal} {t : ℕ} → Err r ≡ Ok t → ⊥
 no_cut e = let z : ◌≡◌ {A = ℕ} 0 1 = cc in omega arith
 
-same_taken : {t u : ℕ} → cut.Unmapped t ≡ cut.Unmapped u → t ≡ u
+same_taken : {t u : ℕ} → ◌≡◌ {A = Result ℕ Refusal} (Ok t) (Ok u) → t ≡ u
 same_taken e = cc
 
 module _ (p : List ℕ) (base used v n : ℕ) where
@@ -44,25 +43,25 @@ module _ (p : List ℕ) (base used v n : ℕ) where
   abbrev tested : ℕ → ℕ → Bool → Bool → Bool → Bool → Mapping
   tested pa f k r a e = pick k (pick r (pick a (pick e (map_cont p (base / 4096) used v n pa f) (map_refused p InvalidArgs)) (map_refused p InvalidArgs)) (map_refused p BadAddress)) (map_refused p InvalidArgs)
 
-  call_keeps : (pa f : ℕ) (x : Refusal) → (map_cont_call p base used v n pa f).result ≡ Refused x → (map_cont_call p base used v n pa f).pool ≡ p
+  call_keeps : (pa f : ℕ) (x : Refusal) → (map_cont_call p base used v n pa f).result ≡ Err x → (map_cont_call p base used v n pa f).pool ≡ p
   call_keeps pa f x = go (known_page f) (range_in_rule v n) (page_aligned v n) (physical_fits pa n)
     where
-      go : (k r a e : Bool) → (tested pa f k r a e).result ≡ Refused x → (tested pa f k r a e).pool ≡ p
+      go : (k r a e : Bool) → (tested pa f k r a e).result ≡ Err x → (tested pa f k r a e).pool ≡ p
       go true true true true h = cont_keeps p (base / 4096) used v n pa f x h
       go true true true false h = refl
       go true true false e h = refl
       go true false a e h = refl
       go false r a e h = refl
 
-  map_cont_keeps : (pa f : ℕ) (r : Refusal) (o : Mapping) → MapContIs p base used v n pa f o → o.result ≡ Refused r → o.pool ≡ p
+  map_cont_keeps : (pa f : ℕ) (r : Refusal) (o : Mapping) → MapContIs p base used v n pa f o → o.result ≡ Err r → o.pool ≡ p
   map_cont_keeps pa f r o (refused m e) h = ap (λ (u : Mapping). u.pool) e
   map_cont_keeps pa f r o (taken g e) h = ap (λ (u : Mapping). u.pool) e ∙ call_keeps pa f r (sym (ap (λ (u : Mapping). u.result) e) ∙ h)
 
   -- an accepted outcome is the core's, with the arguments that the tests let pass
-  call_means : (pa f used' : ℕ) → Good p base used → (map_cont_call p base used v n pa f).result ≡ Mapped used' → MapsRange p (map_cont_call p base used v n pa f).pool base used used' v n pa f
+  call_means : (pa f used' : ℕ) → Good p base used → (map_cont_call p base used v n pa f).result ≡ Ok used' → MapsRange p (map_cont_call p base used v n pa f).pool base used used' v n pa f
   call_means pa f used' G = go (known_page f) (range_in_rule v n) (page_aligned v n) (physical_fits pa n) refl refl refl
     where
-      go : (k r a e : Bool) → range_in_rule v n ≡ r → page_aligned v n ≡ a → physical_fits pa n ≡ e → (tested pa f k r a e).result ≡ Mapped used'
+      go : (k r a e : Bool) → range_in_rule v n ≡ r → page_aligned v n ≡ a → physical_fits pa n ≡ e → (tested pa f k r a e).result ≡ Ok used'
           → MapsRange p (tested pa f k r a e).pool base used used' v n pa f
       go true true true true x y z h = (ranges p base used v n pa f G (range v n pa x y z)).maps used' h
       go true true true false x y z h = not_both h
@@ -70,7 +69,7 @@ module _ (p : List ℕ) (base used v n : ℕ) where
       go true false a e x y z h = not_both h
       go false r a e x y z h = not_both h
 
-  map_cont_means : (pa f used' : ℕ) (o : Mapping) → MapContIs p base used v n pa f o → o.result ≡ Mapped used' → MapsRange p o.pool base used used' v n pa f
+  map_cont_means : (pa f used' : ℕ) (o : Mapping) → MapContIs p base used v n pa f o → o.result ≡ Ok used' → MapsRange p o.pool base used used' v n pa f
   map_cont_means pa f used' o (refused m e) h = not_both (sym (ap (λ (u : Mapping). u.result) e) ∙ h)
   map_cont_means pa f used' o (taken g e) h =
       subst (λ (q : List ℕ). MapsRange p q base used used' v n pa f) (sym (ap (λ (u : Mapping). u.pool) e)) (call_means pa f used' g (sym (ap (λ (u : Mapping). u.result) e) ∙ h))
@@ -79,11 +78,11 @@ module _ (p : List ℕ) (base used v n : ℕ) where
   abbrev cut_tested : Bool → Bool → ContUnmapping
   cut_tested r a = pick r (pick a (unmap_cont p (base / 4096) used v n) (unmap_cont_refused p InvalidArgs)) (unmap_cont_refused p BadAddress)
 
-  unmap_cont_keeps : (r : Refusal) (o : ContUnmapping) → UnmapContIs p base used v n o → o.result ≡ cut.Refused r → o.pool ≡ p
+  unmap_cont_keeps : (r : Refusal) (o : ContUnmapping) → UnmapContIs p base used v n o → o.result ≡ Err r → o.pool ≡ p
   unmap_cont_keeps r o (refused m e) h = ap (λ (u : ContUnmapping). u.pool) e
   unmap_cont_keeps r o (taken g e) h = ap (λ (u : ContUnmapping). u.pool) e ∙ go (range_in_rule v n) (page_aligned v n) (sym (ap (λ (u : ContUnmapping). u.result) e) ∙ h)
     where
-      go : (x a : Bool) → (cut_tested x a).result ≡ cut.Refused r → (cut_tested x a).pool ≡ p
+      go : (x a : Bool) → (cut_tested x a).result ≡ Err r → (cut_tested x a).pool ≡ p
       go true true q = cont.keeps p (base / 4096) used v n r q
       go true false q = refl
       go false a q = refl
@@ -98,10 +97,10 @@ module _ (p : List ℕ) (base used v n : ℕ) where
     unmap_cont_short : free p used < frames_for p base v (v + n) → o ≡ unmap_cont_refused p NoFrames
     unmap_cont_short l = outcome ∙ D.refused l
 
-    unmap_cont_done : frames_for p base v (v + n) ≤ free p used → o.result ≡ cut.Unmapped (frames_for p base v (v + n))
+    unmap_cont_done : frames_for p base v (v + n) ≤ free p used → o.result ≡ Ok (frames_for p base v (v + n))
     unmap_cont_done l = ap (λ (u : ContUnmapping). u.result) outcome ∙ (D.carried l).0
 
-    cut_means : (t : ℕ) → o.result ≡ cut.Unmapped t → (t ≡ frames_for p base v (v + n)) × CutOut p o.pool base used (used + t) v (v + n)
+    cut_means : (t : ℕ) → o.result ≡ Ok t → (t ≡ frames_for p base v (v + n)) × CutOut p o.pool base used (used + t) v (v + n)
     cut_means t h = ⊎_elim
         (λ (l : free p used < frames_for p base v (v + n)). absurd (no_cut (sym (ap (λ (u : ContUnmapping). u.result) (unmap_cont_short l)) ∙ h)))
         (λ l.
@@ -109,12 +108,12 @@ module _ (p : List ℕ) (base used v n : ℕ) where
         (q, subst (λ (w : List ℕ). CutOut p w base used (used + t) v (v + n)) (sym (ap (λ (u : ContUnmapping). u.pool) outcome)) (rw q (D.carried l).1)))
         (below? (free p used) (frames_for p base v (v + n)))
 
-  unmap_cont_means : (t : ℕ) (o : ContUnmapping) → UnmapContIs p base used v n o → o.result ≡ cut.Unmapped t
+  unmap_cont_means : (t : ℕ) (o : ContUnmapping) → UnmapContIs p base used v n o → o.result ≡ Ok t
       → (t ≡ frames_for p base v (v + n)) × CutOut p o.pool base used (used + t) v (v + n)
   unmap_cont_means t o (refused m e) h = absurd (no_cut (sym (ap (λ (u : ContUnmapping). u.result) e) ∙ h))
   unmap_cont_means t o (taken G e) h = go (range_in_rule v n) (page_aligned v n) refl refl
     where
-      result : (unmap_cont_call p base used v n).result ≡ cut.Unmapped t
+      result : (unmap_cont_call p base used v n).result ≡ Ok t
       result = sym (ap (λ (u : ContUnmapping). u.result) e) ∙ h
 
       go : (x y : Bool) → range_in_rule v n ≡ x → page_aligned v n ≡ y → (t ≡ frames_for p base v (v + n)) × CutOut p o.pool base used (used + t) v (v + n)

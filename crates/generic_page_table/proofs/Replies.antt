@@ -1,4 +1,5 @@
 -- What a range call tells is told of one outcome alone, so that a promise fixes the outcome itself.
+use Rattle.std.specs.Prelude.{Err, Ok}
 use Prim.Native.Nat.{ℕ}
 use mathlib.Core.Path.{sym, ap}
 use mathlib.Core.List.{List, head-eq_of_cons-eq}
@@ -9,17 +10,16 @@ use Rattle.refusal.specs.declared.Refusal.TheVariants.{BadTable}
 use Rattle.refusal.proofs.Replies.{same_refusal, same_values, never}
 use Rattle.table_map.specs.Map.{Mapping}
 use Rattle.table_unmap_cont.specs.UnmapCont.{ContUnmapping}
-use Rattle.table_unmap_cont.specs.declared.UnmapContResult.TheVariants.{Unmapped, Refused}
 use Rattle.page_table.specs.Calls.{map_refused}
 use Rattle.page_table.specs.Replies.{map_told}
 use Rattle.page_table.proofs.Replies.{map_once}
 use Rattle.generic_page_table.specs.Calls.{map_cont_call, unmap_cont_refused, unmap_cont_call, unmap_cont_reply, unmap_cont_told, MapContFits, UnmapContFits}
 
 unmap_cont_reply_lem : OneToOne unmap_cont_reply
-unmap_cont_reply_lem (Unmapped t) (Unmapped u) e = ap Unmapped (head-eq_of_cons-eq (same_values e))
-unmap_cont_reply_lem (Unmapped t) (Refused r) e = never r e
-unmap_cont_reply_lem (Refused r) (Unmapped t) e = never r (sym e)
-unmap_cont_reply_lem (Refused r) (Refused q) e = ap Refused (same_refusal r q e)
+unmap_cont_reply_lem (Ok t) (Ok u) e = ap Ok (head-eq_of_cons-eq (same_values e))
+unmap_cont_reply_lem (Ok t) (Err r) e = never r e
+unmap_cont_reply_lem (Err r) (Ok t) e = never r (sym e)
+unmap_cont_reply_lem (Err r) (Err q) e = ap Err (same_refusal r q e)
 
 pub unmap_cont_once : OneToOne unmap_cont_told
 unmap_cont_once a b e = λ i. record { result = unmap_cont_reply_lem a.result b.result (λ j. (e j).reply) i; pool = (e i).after }

@@ -1,11 +1,11 @@
 -- The tests of a range, by what the code compares and by what they show.
-use Prim.Native.Nat.{ℕ, ◌+◌, ◌-◌, ◌%◌, ◌^◌, ◌≤◌, ◌<◌}
+use Prim.Native.Nat.{ℕ, ◌+◌, ◌%◌, ◌^◌, ◌≤◌, ◌<◌}
 use mathlib.Core.Path.{◌≡◌, refl, sym, ◌∙◌}
 use mathlib.Core.Bool.{Bool, true, false}
 use mathlib.Core.Logic.{inl, inr, ⊎_elim}
 use native.Mathlib.Omega.{arith}
 use lib.Dec.{leb}
-use borrow.Author.Tests.{eqb-true, leb-true, lt-ltb, le-ltb, le-leb, lt-leb}
+use borrow.Author.Tests.{eqb-true, leb-true, lt-ltb, le-ltb, le-leb}
 use Rattle.paging.specs.Level.{Within}
 use Rattle.paging.proofs.Cases.{below?, both, no_truth}
 use Rattle.common.specs.Page.{aligned}
@@ -14,21 +14,6 @@ use Rattle.table_map_cont.specs.MapCont.{Range}
 use Rattle.page_table.specs.Calls.{in_rule}
 use Rattle.page_table.proofs.Laws.{Ruled, lower, upper, ruled, in_rule_lem}
 use Rattle.generic_page_table.specs.Rules.{rule_end, range_in_rule, page_aligned, physical_fits}
-
--- the size against what is left up to an end, or the range's end against it
-pub by_rest : (v n e : ℕ) → v ≤ e → leb n (e - v) ≡ leb (v + n) e
-by_rest v n e h = ⊎_elim
-    (λ (g : e < v + n). lt-leb n (e - v) (omega arith) ∙ sym (lt-leb (v + n) e g))
-    (λ (g : v + n ≤ e). le-leb n (e - v) (omega arith) ∙ sym (le-leb (v + n) e g))
-    (below? e (v + n))
-
--- an address lies before the end of its part
-pub before_end : (v : ℕ) → in_rule v ≡ true → v ≤ rule_end v
-before_end v e = go (ruled v e)
-  where
-    go : Ruled v → v ≤ rule_end v
-    go (lower h) = rw (lt-ltb v (2 ^ 47) h) (omega arith)
-    go (upper h k) = rw (le-ltb v (2 ^ 47) (omega arith)) (omega arith)
 
 module _ (v n : ℕ) where
   pub range_lower : v < 2 ^ 47 → range_in_rule v n ≡ leb (v + n) (2 ^ 47)
@@ -39,9 +24,6 @@ module _ (v n : ℕ) where
 
   pub range_out : in_rule v ≡ false → range_in_rule v n ≡ false
   range_out e = rw e
-
-  pub range_in : in_rule v ≡ true → range_in_rule v n ≡ leb (v + n) (rule_end v)
-  range_in e = rw e
 
   -- a range that passes: its start is in the rule, and its end by the end of the same part
   data RuledRange : Type 0 where

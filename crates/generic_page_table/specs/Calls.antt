@@ -1,6 +1,6 @@
 -- The range calls, whole: every refusal in document 01's order ("13, .. unknown flag bits (1), 15, then the added argument tests for table calls (1), then
 -- the Rust's own order"), then the call on a well-formed table; last, the promises, where 13 goes by whether the pool is Good.
-use Rattle.std.specs.Prelude.{ℕ, ◌/◌, List, [], ◌∷◌}
+use Rattle.std.specs.Prelude.{ℕ, ◌/◌, List, [], ◌∷◌, Err, Ok, Result}
 use Rattle.paging.specs.Choice.{pick, Answered}
 use Rattle.common.specs.Flags.{known_page}
 use Rattle.form.specs.Form.{Good}
@@ -10,8 +10,6 @@ use Rattle.refusal.specs.Reply.{Reply, success, refusal, Told, refused}
 use Rattle.table_map.specs.Map.{Mapping}
 use Rattle.table_map_cont.specs.MapCont.{map_cont}
 use Rattle.table_unmap_cont.specs.UnmapCont.{unmap_cont, ContUnmapping}
-use Rattle.table_unmap_cont.specs.declared.UnmapContResult.{UnmapContResult}
-use Rattle.table_unmap_cont.specs.declared.UnmapContResult.TheVariants.{Unmapped, Refused}
 use Rattle.page_table.specs.Calls.{map_refused}
 use Rattle.page_table.specs.Replies.{map_told}
 use Rattle.generic_page_table.specs.Rules.{range_in_rule, page_aligned, physical_fits}
@@ -26,7 +24,7 @@ map_cont_call p base used v n pa f =
 
 -- a refused call changes no word
 abbrev pub unmap_cont_refused : List ℕ → Refusal → ContUnmapping
-unmap_cont_refused p r = record { result = Refused r; pool = p }
+unmap_cont_refused p r = record { result = Err r; pool = p }
 
 abbrev pub unmap_cont_call : List ℕ → ℕ → ℕ → ℕ → ℕ → ContUnmapping
 unmap_cont_call p base used v n =
@@ -35,9 +33,9 @@ unmap_cont_call p base used v n =
     (unmap_cont_refused p BadAddress)
 
 -- document 01's number and value: the frames taken
-abbrev pub unmap_cont_reply : UnmapContResult → Reply
-unmap_cont_reply (Unmapped n) = success (n ∷ [])
-unmap_cont_reply (Refused r) = refusal r
+abbrev pub unmap_cont_reply : Result ℕ Refusal → Reply
+unmap_cont_reply (Ok n) = success (n ∷ [])
+unmap_cont_reply (Err r) = refusal r
 
 -- that reply, and the pool afterwards
 abbrev pub unmap_cont_told : ContUnmapping → Told (List ℕ)

@@ -3,14 +3,12 @@
 #![tactic(auto)]
 
 ghost use Rattle.std.specs.Prelude.{◌≡◌};
-ghost use Rattle.generic_page_table.specs.Rules.{rule_end, range_in_rule, page_aligned, physical_fits};
+ghost use Rattle.generic_page_table.specs.Rules.{rule_end, range_in_rule, page_aligned, range_tested, physical_fits};
 ghost use Rattle.generic_page_table.specs.Calls.{MapContFits, UnmapContFits};
 
 use common::defs::{MMUFlags, PhysAddr, VirtAddr};
 use common::vm::PageSize;
 use refusal::Refusal;
-use table_map::MapResult;
-use table_unmap_cont::UnmapContResult;
 
 // Where the part of the rule ends that the address lies in.
 fn rule_end(vaddr: VirtAddr) -> VirtAddr
@@ -27,30 +25,34 @@ fn rule_end(vaddr: VirtAddr) -> VirtAddr
 fn is_range_in_rule(vaddr: VirtAddr, size: u64) -> bool
     ensures { result ≡ range_in_rule vaddr size }
 {
-    if !page_table::is_in_rule(vaddr) {
-        return false;
-    }
-    size <= rule_end(vaddr) - vaddr
+    page_table::is_in_rule(vaddr) && size <= rule_end(vaddr) - vaddr
 }
 
 // Whether the range is one of whole pages.
 fn is_page_aligned(vaddr: VirtAddr, size: u64) -> bool
     ensures { result ≡ page_aligned vaddr size }
 {
-    if !PageSize::Size4K.is_aligned(vaddr) {
-        return false;
+    PageSize::Size4K.is_aligned(vaddr) && PageSize::Size4K.is_aligned(size)
+}
+
+// The tests of a range that both calls make.
+fn check_range(vaddr: VirtAddr, size: u64) -> Result<(), Refusal>
+    ensures { result ≡ range_tested vaddr size }
+{
+    if !is_range_in_rule(vaddr, size) {
+        return Err(Refusal::BadAddress);
     }
-    PageSize::Size4K.is_aligned(size)
+    if !is_page_aligned(vaddr, size) {
+        return Err(Refusal::InvalidArgs);
+    }
+    Ok(())
 }
 
 // Whether the frames end by 2^52.
 fn is_physical(paddr: PhysAddr, size: u64) -> bool
     ensures { result ≡ physical_fits paddr size }
 {
-    if 0x10_0000_0000_0000 < paddr {
-        return false;
-    }
-    size <= 0x10_0000_0000_0000 - paddr
+    paddr <= 0x10_0000_0000_0000 && size <= 0x10_0000_0000_0000 - paddr
 }
 
 // `map_cont` of the core, where the pool, the flags and the range are such that it can be called.
@@ -62,23 +64,16 @@ pub fn map_cont(
     size: u64,
     paddr: PhysAddr,
     flags: MMUFlags,
-) -> MapResult
+) -> Result<usize, Refusal>
     ensures { MapContFits pool.old base used vaddr size paddr flags.0 (record { result = result; pool = pool.new }) }
 {
-    if !form::is_good(pool, base, used) {
-        return MapResult::Refused(Refusal::BadTable);
-    }
+    page_table::check_table(pool, base, used)?;
     if !flags.is_known() {
-        return MapResult::Refused(Refusal::InvalidArgs);
+        return Err(Refusal::InvalidArgs);
     }
-    if !is_range_in_rule(vaddr, size) {
-        return MapResult::Refused(Refusal::BadAddress);
-    }
-    if !is_page_aligned(vaddr, size) {
-        return MapResult::Refused(Refusal::InvalidArgs);
-    }
+    check_range(vaddr, size)?;
     if !is_physical(paddr, size) {
-        return MapResult::Refused(Refusal::InvalidArgs);
+        return Err(Refusal::InvalidArgs);
     }
     table_map_cont::map_cont(pool, base, used, vaddr, size, paddr, flags)
 }
@@ -90,17 +85,10 @@ pub fn unmap_cont(
     used: usize,
     vaddr: VirtAddr,
     size: u64,
-) -> UnmapContResult
+) -> Result<usize, Refusal>
     ensures { UnmapContFits pool.old base used vaddr size (record { result = result; pool = pool.new }) }
 {
-    if !form::is_good(pool, base, used) {
-        return UnmapContResult::Refused(Refusal::BadTable);
-    }
-    if !is_range_in_rule(vaddr, size) {
-        return UnmapContResult::Refused(Refusal::BadAddress);
-    }
-    if !is_page_aligned(vaddr, size) {
-        return UnmapContResult::Refused(Refusal::InvalidArgs);
-    }
+    page_table::check_table(pool, base, used)?;
+    check_range(vaddr, size)?;
     table_unmap_cont::unmap_cont(pool, base, used, vaddr, size)
 }

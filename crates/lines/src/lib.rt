@@ -3,15 +3,16 @@
 
 ghost use Rattle.std.specs.Prelude.{OnOk, false, decimal, ◌∷◌};
 ghost use Rattle.std.specs.Fmt.{digits};
+ghost use Rattle.std.specs.List.{flat_map};
 ghost use Rattle.std.specs.Io.KnownBytes.{Appends};
 
 use std::io::{self, Write};
-use std::num::wrapping_add_u64;
 
+// `text` of trace_output, so that a program of lines needs this crate alone.
 pub fn text<W: Write>(out: &mut W, bytes: &[u8]) -> io::Result<()>
     ensures { OnOk result (Appends (W.contents out.old) (W.contents out.new) bytes.now) }
 {
-    out.write_all(bytes)
+    trace_output::text(out, bytes)
 }
 
 // In hexadecimal.
@@ -19,6 +20,15 @@ pub fn number<W: Write>(out: &mut W, n: u64) -> io::Result<()>
     ensures { OnOk result (Appends (W.contents out.old) (W.contents out.new) (32 ∷ digits 16 false n)) }
 {
     write!(out, " {n:x}")
+}
+
+pub fn numbers<W: Write>(out: &mut W, values: &[u64]) -> io::Result<()>
+    ensures { OnOk result (Appends (W.contents out.old) (W.contents out.new) (flat_map (λ n. 32 ∷ digits 16 false n) values.now)) }
+{
+    for value in values {
+        number(out, *value)?;
+    }
+    Ok(())
 }
 
 // In decimal, as refusal numbers are.
@@ -29,11 +39,6 @@ pub fn code<W: Write>(out: &mut W, n: u64) -> io::Result<()>
 }
 
 pub fn sum(pool: &[u64]) -> u64 {
-    let mut total: u64 = 0;
-    let mut i = 0;
-    while i < pool.len() {
-        total = wrapping_add_u64(total, pool[i]);
-        i += 1;
-    }
-    total
+    pool.iter()
+        .fold(0, |total: u64, word| total.wrapping_add(*word))
 }

@@ -1,4 +1,5 @@
 -- What is proved of the table calls as a whole.
+use Rattle.std.specs.Prelude.{Err, Ok, Option}
 use Prim.Native.Nat.{ℕ, ◌+◌, ◌-◌, ◌/◌, ◌^◌, ◌≤◌, ◌<◌}
 use mathlib.Core.Path.{◌≡◌, refl, sym, ap, ◌∙◌, subst}
 use mathlib.Core.Bool.{Bool, true, false}
@@ -20,17 +21,13 @@ use Rattle.refusal.specs.declared.Refusal.{Refusal}
 use Rattle.refusal.specs.declared.Refusal.TheVariants.{InvalidArgs, BadTable, BadAddress}
 use Rattle.refusal.proofs.Replies.{positive}
 use Rattle.table.specs.Table.{unmapped, Unmapping, new_word, updated, Updating}
-use Rattle.table.specs.declared.UnmapResult.TheVariants as unmap
-use Rattle.table.specs.declared.UpdateResult.TheVariants as update
-use Rattle.table.specs.declared.NewAddr.{NewAddr}
-use Rattle.table.specs.declared.NewFlags.{NewFlags}
 use Rattle.table_map.specs.Map.{leaf_for, mapped, Mapping}
-use Rattle.table_map.specs.declared.MapResult.TheVariants as map
 use Rattle.table_laws.proofs.Effects.{unmap_refused_lem, update_refused_lem, map_refused_lem, effects}
 use Rattle.table_laws.specs.Effects.{shows_in, Rewrites, Adds}
 use Rattle.page_table.specs.Calls.{in_rule, placed, known_new, unmap_call, unmap_refused, update_call, update_refused, map_call, map_refused}
 use Rattle.page_table.specs.Laws.{Laws}
 use Rattle.page_table.proofs.Replies.{query_once, unmap_once, update_once, map_once, UnmapIs, unmap_is, UpdateIs, update_is, MapIs, map_is}
+use Rattle.common.specs.declared.defs.MMUFlags.{MMUFlags}
 
 -- the two ranges of the rule
 pub data Ruled (v : ℕ) : Type 0 where
@@ -63,69 +60,69 @@ leaves Size1G x v (lower h) e = lower (omega arith)
 leaves Size1G x v (upper h k) e = upper (omega arith) (omega arith)
 
 module _ (p : List ℕ) (base used v : ℕ) where
-  unmap_call_lem : (r : Refusal) → (unmap_call p base v).result ≡ unmap.Refused r → (unmap_call p base v).pool ≡ p
+  unmap_call_lem : (r : Refusal) → (unmap_call p base v).result ≡ Err r → (unmap_call p base v).pool ≡ p
   unmap_call_lem r = go (in_rule v)
     where
-      go : (t : Bool) → (pick t (unmapped p (base / 4096) v) (unmap_refused p BadAddress)).result ≡ unmap.Refused r → (pick t (unmapped p (base / 4096) v) (unmap_refused p BadAddress)).pool ≡ p
+      go : (t : Bool) → (pick t (unmapped p (base / 4096) v) (unmap_refused p BadAddress)).result ≡ Err r → (pick t (unmapped p (base / 4096) v) (unmap_refused p BadAddress)).pool ≡ p
       go true h = unmap_refused_lem p (base / 4096) v r h
       go false h = refl
 
-  update_call_lem : (n : NewAddr) (f : NewFlags) (r : Refusal) → (update_call p base v n f).result ≡ update.Refused r → (update_call p base v n f).pool ≡ p
+  update_call_lem : (n : Option ℕ) (f : Option MMUFlags) (r : Refusal) → (update_call p base v n f).result ≡ Err r → (update_call p base v n f).pool ≡ p
   update_call_lem n f r = go (known_new f) (in_rule v)
     where
-      go : (k t : Bool) → (pick k (pick t (updated p (base / 4096) v n f) (update_refused p BadAddress)) (update_refused p InvalidArgs)).result ≡ update.Refused r
+      go : (k t : Bool) → (pick k (pick t (updated p (base / 4096) v n f) (update_refused p BadAddress)) (update_refused p InvalidArgs)).result ≡ Err r
           → (pick k (pick t (updated p (base / 4096) v n f) (update_refused p BadAddress)) (update_refused p InvalidArgs)).pool ≡ p
       go true true h = update_refused_lem p (base / 4096) v n f r h
       go true false h = refl
       go false t h = refl
 
-  map_call_lem : (pa : ℕ) (s : PageSize) (f : ℕ) (r : Refusal) → (map_call p base used v pa s f).result ≡ map.Refused r → (map_call p base used v pa s f).pool ≡ p
+  map_call_lem : (pa : ℕ) (s : PageSize) (f : ℕ) (r : Refusal) → (map_call p base used v pa s f).result ≡ Err r → (map_call p base used v pa s f).pool ≡ p
   map_call_lem pa s f r = go (known_page f) (in_rule v) (placed v pa s)
     where
-      go : (k t x : Bool) → (pick k (pick t (pick x (mapped p (base / 4096) used v pa s f) (map_refused p InvalidArgs)) (map_refused p BadAddress)) (map_refused p InvalidArgs)).result ≡ map.Refused r
+      go : (k t x : Bool) → (pick k (pick t (pick x (mapped p (base / 4096) used v pa s f) (map_refused p InvalidArgs)) (map_refused p BadAddress)) (map_refused p InvalidArgs)).result ≡ Err r
           → (pick k (pick t (pick x (mapped p (base / 4096) used v pa s f) (map_refused p InvalidArgs)) (map_refused p BadAddress)) (map_refused p InvalidArgs)).pool ≡ p
       go true true true h = map_refused_lem p (base / 4096) v used s pa f r h
       go true true false h = refl
       go true false x h = refl
       go false t x h = refl
 
-  unmap_keeps : (r : Refusal) (o : Unmapping) → UnmapIs p base used v o → o.result ≡ unmap.Refused r → o.pool ≡ p
+  unmap_keeps : (r : Refusal) (o : Unmapping) → UnmapIs p base used v o → o.result ≡ Err r → o.pool ≡ p
   unmap_keeps r o (refused n e) h = ap (λ (u : Unmapping). u.pool) e
   unmap_keeps r o (taken g e) h = ap (λ (u : Unmapping). u.pool) e ∙ unmap_call_lem r (sym (ap (λ (u : Unmapping). u.result) e) ∙ h)
 
-  update_keeps : (n : NewAddr) (f : NewFlags) (r : Refusal) (o : Updating) → UpdateIs p base used v n f o → o.result ≡ update.Refused r → o.pool ≡ p
+  update_keeps : (n : Option ℕ) (f : Option MMUFlags) (r : Refusal) (o : Updating) → UpdateIs p base used v n f o → o.result ≡ Err r → o.pool ≡ p
   update_keeps n f r o (refused m e) h = ap (λ (u : Updating). u.pool) e
   update_keeps n f r o (taken g e) h = ap (λ (u : Updating). u.pool) e ∙ update_call_lem n f r (sym (ap (λ (u : Updating). u.result) e) ∙ h)
 
-  map_keeps : (pa : ℕ) (s : PageSize) (f : ℕ) (r : Refusal) (o : Mapping) → MapIs p base used v pa s f o → o.result ≡ map.Refused r → o.pool ≡ p
+  map_keeps : (pa : ℕ) (s : PageSize) (f : ℕ) (r : Refusal) (o : Mapping) → MapIs p base used v pa s f o → o.result ≡ Err r → o.pool ≡ p
   map_keeps pa s f r o (refused m e) h = ap (λ (u : Mapping). u.pool) e
   map_keeps pa s f r o (taken g e) h = ap (λ (u : Mapping). u.pool) e ∙ map_call_lem pa s f r (sym (ap (λ (u : Mapping). u.result) e) ∙ h)
 
   -- an accepted outcome is the core's, with the arguments that the tests let pass
-  unmap_means : (a : ℕ) (s : PageSize) (o : Unmapping) → UnmapIs p base used v o → o.result ≡ unmap.Unmapped a s → Rewrites p o.pool base used v (level_of s) 0
+  unmap_means : (a : ℕ) (s : PageSize) (o : Unmapping) → UnmapIs p base used v o → o.result ≡ Ok (a, s) → Rewrites p o.pool base used v (level_of s) 0
   unmap_means a s o (refused n e) h =
-      let none : unmap.Refused BadTable ≡ unmap.Unmapped a s = sym (ap (λ (u : Unmapping). u.result) e) ∙ h in
+      let none : Err BadTable ≡ Ok (a, s) = sym (ap (λ (u : Unmapping). u.result) e) ∙ h in
       let z : ◌≡◌ {A = ℕ} 0 1 = cc in
       absurd (omega arith)
   unmap_means a s o (taken g e) h = subst (λ (x : List ℕ). Rewrites p x base used v (level_of s) 0) (sym (ap (λ (u : Unmapping). u.pool) e)) (go (in_rule v) (sym (ap (λ (u : Unmapping). u.result) e) ∙ h))
     where
-      go : (t : Bool) → (pick t (unmapped p (base / 4096) v) (unmap_refused p BadAddress)).result ≡ unmap.Unmapped a s
+      go : (t : Bool) → (pick t (unmapped p (base / 4096) v) (unmap_refused p BadAddress)).result ≡ Ok (a, s)
           → Rewrites p (pick t (unmapped p (base / 4096) v) (unmap_refused p BadAddress)).pool base used v (level_of s) 0
       go true k = ((effects p base used v g).unmaps a s k).3
       go false k = let z : ◌≡◌ {A = ℕ} 0 1 = cc in absurd (omega arith)
 
-  UpdateMeans : NewAddr → NewFlags → PageSize → List ℕ → Type 0
+  UpdateMeans : Option ℕ → Option MMUFlags → PageSize → List ℕ → Type 0
   UpdateMeans n f s q = (w : ℕ) × (shows_in p base v ≡ view (level_of s) w) × Rewrites p q base used v (level_of s) (new_word w s n f)
 
-  update_means : (n : NewAddr) (f : NewFlags) (s : PageSize) (o : Updating) → UpdateIs p base used v n f o → o.result ≡ update.Updated s → UpdateMeans n f s o.pool
+  update_means : (n : Option ℕ) (f : Option MMUFlags) (s : PageSize) (o : Updating) → UpdateIs p base used v n f o → o.result ≡ Ok s → UpdateMeans n f s o.pool
   unfolding UpdateMeans
   update_means n f s o (refused m e) h =
-      let none : update.Refused BadTable ≡ update.Updated s = sym (ap (λ (u : Updating). u.result) e) ∙ h in
+      let none : Err BadTable ≡ Ok s = sym (ap (λ (u : Updating). u.result) e) ∙ h in
       let z : ◌≡◌ {A = ℕ} 0 1 = cc in
       absurd (omega arith)
   update_means n f s o (taken g e) h = subst (UpdateMeans n f s) (sym (ap (λ (u : Updating). u.pool) e)) (go (known_new f) (in_rule v) (sym (ap (λ (u : Updating). u.result) e) ∙ h))
     where
-      go : (k t : Bool) → (pick k (pick t (updated p (base / 4096) v n f) (update_refused p BadAddress)) (update_refused p InvalidArgs)).result ≡ update.Updated s
+      go : (k t : Bool) → (pick k (pick t (updated p (base / 4096) v n f) (update_refused p BadAddress)) (update_refused p InvalidArgs)).result ≡ Ok s
           → UpdateMeans n f s (pick k (pick t (updated p (base / 4096) v n f) (update_refused p BadAddress)) (update_refused p InvalidArgs)).pool
       go true true y = (effects p base used v g).updates n f s y
       go true false y = let z : ◌≡◌ {A = ℕ} 0 1 = cc in absurd (omega arith)
@@ -138,9 +135,9 @@ module _ (p : List ℕ) (base used v : ℕ) where
       go true e = omega (arith, leb-true pa (2 ^ 52 - size_of s) e, size_le s)
       go false e = no_truth e
 
-  map_means : (pa : ℕ) (s : PageSize) (f used' : ℕ) (o : Mapping) → MapIs p base used v pa s f o → o.result ≡ map.Mapped used' → Adds p o.pool base used' v (level_of s) (leaf_for s pa f)
+  map_means : (pa : ℕ) (s : PageSize) (f used' : ℕ) (o : Mapping) → MapIs p base used v pa s f o → o.result ≡ Ok used' → Adds p o.pool base used' v (level_of s) (leaf_for s pa f)
   map_means pa s f used' o (refused m e) h =
-      let none : map.Refused BadTable ≡ map.Mapped used' = sym (ap (λ (u : Mapping). u.result) e) ∙ h in
+      let none : Err BadTable ≡ Ok used' = sym (ap (λ (u : Mapping). u.result) e) ∙ h in
       let z : ◌≡◌ {A = ℕ} 0 1 = cc in
       absurd (omega arith)
   map_means pa s f used' o (taken g e) h =
@@ -148,7 +145,7 @@ module _ (p : List ℕ) (base used v : ℕ) where
       (go (known_page f) (in_rule v) (placed v pa s) refl (sym (ap (λ (u : Mapping). u.result) e) ∙ h))
     where
       go : (k t x : Bool) → placed v pa s ≡ x
-          → (pick k (pick t (pick x (mapped p (base / 4096) used v pa s f) (map_refused p InvalidArgs)) (map_refused p BadAddress)) (map_refused p InvalidArgs)).result ≡ map.Mapped used'
+          → (pick k (pick t (pick x (mapped p (base / 4096) used v pa s f) (map_refused p InvalidArgs)) (map_refused p BadAddress)) (map_refused p InvalidArgs)).result ≡ Ok used'
           → Adds p (pick k (pick t (pick x (mapped p (base / 4096) used v pa s f) (map_refused p InvalidArgs)) (map_refused p BadAddress)) (map_refused p InvalidArgs)).pool base used' v (level_of s) (leaf_for s pa f)
       go true true true q y = (effects p base used v g).maps s pa f used' (fits_below pa s q) y
       go true true false q y = let z : ◌≡◌ {A = ℕ} 0 1 = cc in absurd (omega arith)

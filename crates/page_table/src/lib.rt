@@ -3,13 +3,13 @@
 #![tactic(auto)]
 
 ghost use Rattle.std.specs.Prelude.{◌≡◌};
+ghost use Rattle.paging.specs.Choice.{Answered};
+ghost use Rattle.form.specs.Form.{Good};
 ghost use Rattle.page_table.specs.Calls.{in_rule, placed, known_new, QueryFits, UnmapFits, UpdateFits, MapFits};
 
 use common::defs::{MMUFlags, PhysAddr, VirtAddr};
 use common::vm::PageSize;
 use refusal::Refusal;
-use table::{NewAddr, NewFlags, QueryResult, UnmapResult, UpdateResult};
-use table_map::MapResult;
 
 // The addresses that table calls take: both halves but the top GiB.
 pub fn is_in_rule(vaddr: VirtAddr) -> bool
@@ -24,45 +24,58 @@ pub fn is_in_rule(vaddr: VirtAddr) -> bool
     vaddr < 0xffff_ffff_c000_0000
 }
 
+// BAD_TABLE's test.
+pub fn check_table(pool: &[u64], base: u64, used: usize) -> Result<(), Refusal>
+    ensures { Answered (Good pool.now base used) (Err Refusal.BadTable) (Ok tt) result }
+{
+    if !form::is_good(pool, base, used) {
+        return Err(Refusal::BadTable);
+    }
+    Ok(())
+}
+
 // Whether a page of the size can stand at these addresses.
 fn is_placed(vaddr: VirtAddr, paddr: PhysAddr, size: PageSize) -> bool
     ensures { result ≡ placed vaddr paddr size }
 {
-    if !size.is_aligned(vaddr) {
-        return false;
-    }
-    paddr <= 0x10_0000_0000_0000 - size.size()
+    size.is_aligned(vaddr) && paddr <= 0x10_0000_0000_0000 - size.size()
 }
 
-fn is_known_new(flags: NewFlags) -> bool
+fn is_known_new(flags: Option<MMUFlags>) -> bool
     ensures { result ≡ known_new flags }
 {
     match flags {
-        NewFlags::To(f) => f.is_known(),
-        NewFlags::Keep => true,
+        Some(f) => f.is_known(),
+        None => true,
     }
 }
 
-pub fn query(pool: &[u64], base: u64, used: usize, vaddr: VirtAddr) -> QueryResult
+pub fn query(
+    pool: &[u64],
+    base: u64,
+    used: usize,
+    vaddr: VirtAddr,
+) -> Result<(PhysAddr, MMUFlags, PageSize), Refusal>
     ensures { QueryFits pool.now base used vaddr result }
 {
-    if !form::is_good(pool, base, used) {
-        return QueryResult::Refused(Refusal::BadTable);
-    }
+    check_table(pool, base, used)?;
     if !is_in_rule(vaddr) {
-        return QueryResult::Refused(Refusal::BadAddress);
+        return Err(Refusal::BadAddress);
     }
     table::query(pool, base, used, vaddr)
 }
 
-pub fn unmap(pool: &mut [u64], base: u64, used: usize, vaddr: VirtAddr) -> UnmapResult
+pub fn unmap(
+    pool: &mut [u64],
+    base: u64,
+    used: usize,
+    vaddr: VirtAddr,
+) -> Result<(PhysAddr, PageSize), Refusal>
     ensures { UnmapFits pool.old base used vaddr (record { result = result; pool = pool.new }) }
 {
-    if !form::is_good(pool, base, used) {
-        return UnmapResult::Refused(Refusal::BadTable);
-    }
+    check_table(pool, base, used)?;
     if !is_in_rule(vaddr) {
-        return UnmapResult::Refused(Refusal::BadAddress);
+        return Err(Refusal::BadAddress);
     }
     table::unmap(pool, base, used, vaddr)
 }
@@ -72,19 +85,17 @@ pub fn update(
     base: u64,
     used: usize,
     vaddr: VirtAddr,
-    paddr: NewAddr,
-    flags: NewFlags,
-) -> UpdateResult
+    paddr: Option<PhysAddr>,
+    flags: Option<MMUFlags>,
+) -> Result<PageSize, Refusal>
     ensures { UpdateFits pool.old base used vaddr paddr flags (record { result = result; pool = pool.new }) }
 {
-    if !form::is_good(pool, base, used) {
-        return UpdateResult::Refused(Refusal::BadTable);
-    }
+    check_table(pool, base, used)?;
     if !is_known_new(flags) {
-        return UpdateResult::Refused(Refusal::InvalidArgs);
+        return Err(Refusal::InvalidArgs);
     }
     if !is_in_rule(vaddr) {
-        return UpdateResult::Refused(Refusal::BadAddress);
+        return Err(Refusal::BadAddress);
     }
     table::update(pool, base, used, vaddr, paddr, flags)
 }
@@ -97,20 +108,18 @@ pub fn map(
     paddr: PhysAddr,
     size: PageSize,
     flags: MMUFlags,
-) -> MapResult
+) -> Result<usize, Refusal>
     ensures { MapFits pool.old base used vaddr paddr size flags.0 (record { result = result; pool = pool.new }) }
 {
-    if !form::is_good(pool, base, used) {
-        return MapResult::Refused(Refusal::BadTable);
-    }
+    check_table(pool, base, used)?;
     if !flags.is_known() {
-        return MapResult::Refused(Refusal::InvalidArgs);
+        return Err(Refusal::InvalidArgs);
     }
     if !is_in_rule(vaddr) {
-        return MapResult::Refused(Refusal::BadAddress);
+        return Err(Refusal::BadAddress);
     }
     if !is_placed(vaddr, paddr, size) {
-        return MapResult::Refused(Refusal::InvalidArgs);
+        return Err(Refusal::InvalidArgs);
     }
     table_map::map(pool, base, used, vaddr, paddr, size, flags)
 }

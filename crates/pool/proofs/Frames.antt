@@ -1,10 +1,5 @@
 -- Laws of a frame's part of the pool.
-use Prim.Native.Nat.{ℕ, ◌+◌, ◌-◌, ◌*◌, ◌≤◌, ◌<◌}
-use mathlib.Core.Path.{◌≡◌, ap, ◌∙◌}
-use mathlib.Core.List.{List, ◌++◌, append-nil}
-use native.Mathlib.Omega.{arith}
-use lib.ListN.{length, take, drop, get_or, set, replicate, length-take, length-drop}
-use lib.Seq.{get_or-take, get_or-drop, drop-drop, drop-length}
+use Rattle.std.proofs.Common.{ℕ, ◌+◌, ◌-◌, ◌*◌, ◌≤◌, ◌<◌, ◌≡◌, ap, List, ◌++◌, arith, length, take, drop, get_or, set, length-take, length-drop, get_or-take, get_or-drop, drop-drop}
 use borrow.Rule.Slice.PartMut.{put_mid, set_mid_at}
 use Rattle.pool.specs.Pool.{frame_at, word, put_word, put_frame}
 
@@ -26,9 +21,3 @@ put_frame_lem p ys ws i e = rw (width i, e) (ap (λ (t : List ℕ). take (i * 51
 
 pub part_length : (p : List ℕ) (i : ℕ) → i * 512 + 512 ≤ length p → length (take (i * 512 + 512 - i * 512) (drop (i * 512) p)) ≡ 512
 part_length p i h = rw (width i) (frame_length p i h)
-
--- a list of n zeros and nothing after them
-pub filled : (f d : List ℕ) (j : ℕ) → f ≡ replicate j 0 ++ drop j d → j ≤ length d → length d ≤ j → f ≡ replicate (length d) 0
-filled f d j e l g =
-    let q : j ≡ length d = omega arith in
-    e ∙ rw (q, drop-length d) (append-nil (replicate (length d) 0))

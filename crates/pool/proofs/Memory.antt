@@ -1,13 +1,8 @@
 -- The pool as memory, after one word is written and after one frame is zeroed.
-use Prim.Native.Nat.{ℕ, zero, suc, ◌+◌, ◌-◌, ◌*◌, ◌≤◌, ◌<◌}
-use mathlib.Core.Path.{◌≡◌, refl, sym, ap, ◌∙◌}
-use mathlib.Core.Logic.{◌⊎◌, inl, inr, ⊎_elim}
-use mathlib.Core.List.{List, [], ◌∷◌, ◌++◌, append-nil, append_assoc}
-use native.Mathlib.Omega.{arith}
-use native.Mathlib.Nat.{add-sub_cancel_left}
-use native.Mathlib.Numerals.{add-one}
-use lib.ListN.{length, take, drop, get_or, set, replicate, length-append, length-take, length-drop, length-replicate, get_or-replicate, get_or-append}
-use lib.Seq.{get_or-take, get_or-append-add, get_or-set_same, get_or-set_other, set_at, drop-cons, drop-length}
+use Rattle.std.proofs.Common.{ℕ, zero, suc, ◌+◌, ◌-◌, ◌*◌, ◌≤◌, ◌<◌, ◌≡◌, refl, sym, ap, ◌∙◌, ◌⊎◌, inl, inr, ⊎_elim, List, [], ◌∷◌, ◌++◌, append-nil, append_assoc, arith, add-one, length, take, drop, get_or, set, replicate, length-append, length-take, length-drop, get_or-take, get_or-append-add, get_or-set_same, get_or-set_other, drop-cons}
+use Rattle.std.proofs.Math.Nat.{add-sub_cancel_left}
+use Rattle.std.proofs.Math.ListN.{length-replicate, get_or-replicate, get_or-append}
+use Rattle.std.proofs.Math.Seq.{set_at, drop-length}
 use Rattle.pool.specs.Pool.{word, put_word, put_frame, zeroed, listed, mem_of, Taken}
 use Rattle.paging.proofs.Cases.{same?, below?}
 

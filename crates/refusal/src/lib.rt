@@ -4,7 +4,7 @@
 ghost use Rattle.std.specs.Prelude.{◌≡◌};
 ghost use Rattle.refusal.specs.Refusal.{number_of};
 
-#[derive(Clone, Copy)]
+#[derive(Clone, Copy, Debug, PartialEq, Eq)]
 pub enum Refusal {
     InvalidArgs,
     AccessDenied,
@@ -24,6 +24,7 @@ pub enum Refusal {
 }
 
 impl Refusal {
+    // Document 01's numbers, which no derive gives.
     pub fn number(self) -> u64
         ensures { result ≡ number_of self }
     {

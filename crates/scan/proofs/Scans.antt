@@ -97,3 +97,16 @@ first_most p n = let g = first_of_from p (n - 0) 0 in omega (arith, g.1)
 pub before_first : (p : ℕ → Bool) (n j : ℕ) → j < first p 0 n → p j ≡ false
 unfolding first
 before_first p n j h = first_of_before p (n - 0) 0 j (omega arith) h
+
+-- tests that say the same below n
+first_of_alike : (p q : ℕ → Bool) (k i : ℕ) → ((j : ℕ) → i ≤ j → j < i + k → p j ≡ q j) → first_of p i k ≡ first_of q i k
+unfolding first_of
+first_of_alike p q zero i same = refl
+first_of_alike p q (suc k) i same =
+    let here = same i (omega arith) (omega arith) in
+    let later = first_of_alike p q k (i + 1) (λ j a b. same j (omega arith) (omega arith)) in
+    rw (here, later)
+
+pub first_alike : (p q : ℕ → Bool) (n : ℕ) → ((j : ℕ) → j < n → p j ≡ q j) → first p 0 n ≡ first q 0 n
+unfolding first
+first_alike p q n same = first_of_alike p q (n - 0) 0 (λ j a b. same j (omega arith))

@@ -1,5 +1,5 @@
 -- Scans of the indexes i, i + 1, .. below n by a test.
-use Rattle.std.specs.Prelude.{ℕ, zero, suc, ◌+◌, ◌-◌, Bool, true, false}
+use Rattle.std.specs.Prelude.{ℕ, zero, suc, ◌+◌, ◌-◌, Bool, true, false, ltb, Option, Some, None}
 use Rattle.paging.specs.Choice.{pick}
 
 -- the first of the k indexes from i on that passes, else the one after them
@@ -19,3 +19,7 @@ first p i n = first_of p i (n - i)
 -- whether some index from i on and below n passes
 unfoldable pub some : (ℕ → Bool) → ℕ → ℕ → Bool
 some p i n = some_of p i (n - i)
+
+-- an index, where it is below n
+abbrev pub below : ℕ → ℕ → Option ℕ
+below n i = pick (ltb i n) (Some i) None

@@ -1,11 +1,5 @@
 -- What a space that passes its check has, for proofs.
-use Prim.Native.Nat.{ℕ, zero, suc, ◌+◌, ◌^◌, ◌≤◌, ◌<◌}
-use mathlib.Core.Path.{◌≡◌, refl, sym, subst}
-use mathlib.Core.Bool.{Bool, true, false}
-use mathlib.Core.List.{List}
-use mathlib.Core.Logic.{inl, inr, ⊎_elim}
-use native.Mathlib.Omega.{arith}
-use lib.ListN.{get_or}
+use Rattle.std.proofs.Common.{◌≡◌, ℕ, zero, suc, ◌+◌, ◌^◌, ◌<◌, ◌≤◌, Bool, true, false, List, get_or, refl, sym, subst, ⊎_elim, arith}
 use Rattle.paging.proofs.Cases.{same?, clash}
 use Rattle.scan.proofs.Pigeons.{fewer}
 use Rattle.space.specs.Space.{region_at, mapping_at, is_region, is_mapping, region_place, mapping_place}
@@ -41,8 +35,7 @@ module _ {s : Space} {flags : List ℕ} (p : Passes s flags) where
 
   -- a root range ends below 2^64, and so does each region below it: by its place, since a parent stands before its children
   root_end : (a n : ℕ) → RootRange a n → a + n < 2 ^ 64
-  root_end a n (inl e) = omega (arith, e.1)
-  root_end a n (inr e) = omega (arith, e.0, e.1)
+  root_end a n h = grind arith
 
   place_end : (n k : ℕ) → k < n → k < s.regcount → (region_at s (region_place s k)).addr + (region_at s (region_place s k)).size < 2 ^ 64
   place_end zero k l h = absurd (omega arith)

@@ -2,7 +2,7 @@
 // lists of slots keep the order in which the Rust's `children` and `mappings` stand. specs/Space draws it.
 #![tactic(auto)]
 
-ghost use Rattle.std.specs.Prelude.{◌≡◌, ◌+◌, ◌^◌, ◌<◌, leb};
+ghost use Rattle.std.specs.Prelude.{◌≡◌, ℕ, ◌+◌, ◌^◌, ◌<◌, Bool, leb};
 ghost use Rattle.space.specs.Space.{with_region, with_mapping};
 ghost use Rattle.space.specs.Range.{overlap, inside, contains};
 
@@ -15,7 +15,7 @@ pub const MAPPINGS: usize = 64;
 // Bytes of page flags that are lent: 512 for each mapping slot.
 pub const FLAGS: usize = 32768;
 
-// The parent of the root.
+// The parent of the root: a number and no `Option`, since programs set and list it.
 pub const NO_REGION: usize = 32;
 
 // The last address.
@@ -33,8 +33,8 @@ pub const KERNEL_ASPACE_BASE: u64 = 0xffff_ff02_0000_0000;
 
 pub const KERNEL_ASPACE_SIZE: u64 = 0x80_0000_0000;
 
-// A slot is free or holds a live region.
-#[derive(Clone, Copy)]
+// A slot is free or holds a live region: a flag and no `Option`, since programs set and list each field.
+#[derive(Clone, Copy, Debug, PartialEq, Eq)]
 pub struct Region {
     pub live: bool,
     pub id: u64,
@@ -44,8 +44,20 @@ pub struct Region {
     pub parent: usize,
 }
 
-// A slot is free or holds a live mapping: a range of a VMO at a range of addresses. Its page flags stand in the slot's 512 lent bytes.
-#[derive(Clone, Copy)]
+impl Region {
+    // A free slot.
+    pub const BLANK: Region = Region {
+        live: false,
+        id: 0,
+        addr: 0,
+        size: 0,
+        flags: 0,
+        parent: 0,
+    };
+}
+
+// A slot is free or holds a live mapping, by a flag as a region: a range of a VMO at a range of addresses. Its page flags stand in the slot's 512 lent bytes.
+#[derive(Clone, Copy, Debug, PartialEq, Eq)]
 pub struct Mapping {
     pub live: bool,
     pub region: usize,
@@ -56,11 +68,100 @@ pub struct Mapping {
     pub permissions: u64,
 }
 
+impl Mapping {
+    // A free slot.
+    pub const BLANK: Mapping = Mapping {
+        live: false,
+        region: 0,
+        addr: 0,
+        size: 0,
+        vmo: 0,
+        offset: 0,
+        permissions: 0,
+    };
+}
+
+// A region or a mapping: a range of addresses that belongs to a region.
+pub trait Part: Copy {
+    ghost is_live: { Self → Bool };
+
+    ghost owner: { Self → ℕ };
+
+    ghost addr: { Self → ℕ };
+
+    ghost size: { Self → ℕ };
+
+    fn is_live(self) -> bool
+        ensures { result ≡ is_live self };
+
+    // The region's slot.
+    fn owner(self) -> usize
+        ensures { result ≡ owner self };
+
+    fn addr(self) -> VirtAddr
+        ensures { result ≡ addr self };
+
+    fn size(self) -> u64
+        ensures { result ≡ size self };
+}
+
+impl Part for Region {
+    ghost is_live = { λ g. g.live };
+
+    ghost owner = { λ g. g.parent };
+
+    ghost addr = { λ g. g.addr };
+
+    ghost size = { λ g. g.size };
+
+    fn is_live(self) -> bool {
+        self.live
+    }
+
+    fn owner(self) -> usize {
+        self.parent
+    }
+
+    fn addr(self) -> VirtAddr {
+        self.addr
+    }
+
+    fn size(self) -> u64 {
+        self.size
+    }
+}
+
+impl Part for Mapping {
+    ghost is_live = { λ m. m.live };
+
+    ghost owner = { λ m. m.region };
+
+    ghost addr = { λ m. m.addr };
+
+    ghost size = { λ m. m.size };
+
+    fn is_live(self) -> bool {
+        self.live
+    }
+
+    fn owner(self) -> usize {
+        self.region
+    }
+
+    fn addr(self) -> VirtAddr {
+        self.addr
+    }
+
+    fn size(self) -> u64 {
+        self.size
+    }
+}
+
 #[derive(Clone, Copy)]
 pub struct Space {
     pub regions: [Region; 32],
     pub mappings: [Mapping; 64],
-    // Slots of live regions in the order of their making; 0 past the count.
+    // Slots of live regions in the order of their making; 0 past the count. An array with its count, since there is no heap.
     pub reglist: [usize; 32],
     pub regcount: usize,
     // Slots of live mappings in the order of their making; 0 past the count.
@@ -72,29 +173,24 @@ pub struct Space {
 
 impl Space {
     // The region goes to this free slot, last in the list, with the next id.
-    pub fn with_region(mut self, slot: usize, g: Region) -> Self
-        requires { (slot < 32) × (self.regcount < 32) × (self.nextid < 2 ^ 32) }
-        ensures { result ≡ with_region self slot g }
+    pub fn add_region(&mut self, slot: usize, g: Region)
+        requires { (slot < 32) × (self.old.regcount < 32) × (self.old.nextid < 2 ^ 32) }
+        ensures { self.new ≡ with_region self.old slot g }
     {
-        let count = self.regcount;
-        let nextid = self.nextid;
         self.regions[slot] = g;
-        self.reglist[count] = slot;
-        self.regcount = count + 1;
-        self.nextid = nextid + 1;
-        self
+        self.reglist[self.regcount] = slot;
+        self.regcount += 1;
+        self.nextid += 1;
     }
 
     // The mapping goes to this free slot, last in the list.
-    pub fn with_mapping(mut self, slot: usize, m: Mapping) -> Self
-        requires { (slot < 64) × (self.mapcount < 64) }
-        ensures { result ≡ with_mapping self slot m }
+    pub fn add_mapping(&mut self, slot: usize, m: Mapping)
+        requires { (slot < 64) × (self.old.mapcount < 64) }
+        ensures { self.new ≡ with_mapping self.old slot m }
     {
-        let count = self.mapcount;
         self.mappings[slot] = m;
-        self.maplist[count] = slot;
-        self.mapcount = count + 1;
-        self
+        self.maplist[self.mapcount] = slot;
+        self.mapcount += 1;
     }
 }
 
@@ -102,38 +198,29 @@ impl Space {
 pub fn sum_le(x: u64, y: u64, z: u64) -> bool
     ensures { result ≡ leb (x + y) z }
 {
-    if z < y {
-        return false;
-    }
-    x <= z - y
+    x.checked_add(y).is_some_and(|sum| sum <= z)
 }
 
 // Whether [addr, addr + size) and [begin, begin + len) overlap, as the Rust's `overlap`.
+#[tactic(auto, using(std::proofs::lemmas::Bool::Decides::nat_tests), unfolding(crate::specs::Range::overlap))]
 pub fn overlap(addr: VirtAddr, size: u64, begin: VirtAddr, len: u64) -> bool
     ensures { result ≡ overlap addr size begin len }
 {
-    if sum_le(begin, len, addr) {
-        return false;
-    }
-    !sum_le(addr, size, begin)
+    !sum_le(begin, len, addr) && !sum_le(addr, size, begin)
 }
 
 // Whether [addr, addr + size) lies inside [begin, begin + len), as the Rust's `within`: ends may meet.
+#[tactic(auto, using(std::proofs::lemmas::Bool::Decides::nat_tests), unfolding(crate::specs::Range::inside))]
 pub fn within(addr: VirtAddr, size: u64, begin: VirtAddr, len: u64) -> bool
     ensures { result ≡ inside addr size begin len }
 {
-    if addr < begin {
-        return false;
-    }
-    sum_le(addr - begin, size, len)
+    begin <= addr && sum_le(addr - begin, size, len)
 }
 
 // Whether [addr, addr + size) holds the address, as the Rust's `contains`.
+#[tactic(auto, using(std::proofs::lemmas::Bool::Decides::nat_tests), unfolding(crate::specs::Range::contains))]
 pub fn contains(addr: VirtAddr, size: u64, vaddr: VirtAddr) -> bool
     ensures { result ≡ contains addr size vaddr }
 {
-    if vaddr < addr {
-        return false;
-    }
-    vaddr - addr < size
+    addr <= vaddr && vaddr - addr < size
 }

@@ -1,20 +1,11 @@
 -- The clauses of the check are the phrases of `Passes`.
-use Prim.Native.Nat.{ℕ, ◌/◌, ◌≤◌, ◌<◌}
-use mathlib.Core.Path.{◌≡◌, refl, sym, ap, subst}
-use mathlib.Core.Bool.{Bool, true, false}
-use mathlib.Core.List.{List}
-use mathlib.Core.Logic.{◌⊎◌, inl, inr}
-use native.Mathlib.Omega.{arith}
-use lib.ListN.{length}
+use Rattle.std.proofs.Common.{◌≡◌, ℕ, ◌<◌, ◌≤◌, Bool, true, false, List, length, refl, sym, subst, ◌⊎◌, inl, inr, arith}
 use Rattle.paging.proofs.Cases.{same?, clash}
-use Rattle.space.specs.Space.{region_at, mapping_at, is_region, region_place}
-use Rattle.space.specs.Passes.{In, Listed, Apart, Blank, RootRange, Passes}
-use Rattle.space.specs.declared.Mapping.{Mapping}
+use Rattle.space.specs.Space.{region_at, is_region, region_place}
+use Rattle.space.specs.Passes.{In, Listed, Apart, RootRange, Passes}
 use Rattle.space.specs.declared.Space.{Space}
-use Rattle.space_slots.specs.Slots.{Places, MappingSlots}
+use Rattle.space_slots.specs.Slots.{Places}
 use Rattle.space_check.specs.Clauses.{GoodRegions, GoodMappings}
-use Rattle.space_parts.specs.Parts.{Fitting}
-use Rattle.space_parts.proofs.Meets.{fitting}
 use Rattle.space.proofs.Facts.{region_end}
 
 -- a list, by its places and by what its slots say
@@ -42,12 +33,9 @@ module _ {n : ℕ} {list : List ℕ} {count : ℕ} {lives : ℕ → Bool} (size 
     rest = λ k l h. p.rest k l (omega arith);
   }
 
-pub blank_of : {s : Space} {flags : List ℕ} → GoodRegions s → GoodMappings s flags → Blank s
-blank_of r m = record { region = λ i l. (r.slots i l).blank; mapping = λ i l. (m.slots i l).blank }
-
-module _ {s : Space} {flags : List ℕ} (32-long : length s.reglist ≡ 32) (64-long : length s.maplist ≡ 64) where
-  pub whole : GoodRegions s → GoodMappings s flags → Apart s → Passes s flags
-  whole r m a = record {
+module _ {s : Space} {flags : List ℕ} where
+  pub whole : length s.reglist ≡ 32 → length s.maplist ≡ 64 → GoodRegions s → GoodMappings s flags → Apart s → Passes s flags
+  whole 32-long 64-long r m a = record {
     lent = m.lent;
     regions = regions;
     mappings = listed 64-long m.places (λ i l. (m.slots i l).listed) (λ i l. (m.slots i l).unlisted);
@@ -66,14 +54,14 @@ module _ {s : Space} {flags : List ℕ} (32-long : length s.reglist ≡ 32) (64-
     pages = m.pages;
     known = record { region = λ i l a. ((r.slots i l).good a).known; mapping = λ i l a. ((m.slots i l).good a).known };
     ids = record { most = r.most; issued = λ i l a. ((r.slots i l).good a).issued; distinct = λ i j l h. r.ids i h j l };
-    blank = blank_of r m;
+    blank = record { region = λ i l. (r.slots i l).blank; mapping = λ i l. (m.slots i l).blank };
   }
     where
       regions : Listed 32 s.reglist s.regcount (is_region s)
       regions = listed 32-long r.places (λ i l. (r.slots i l).listed) (λ i l. (r.slots i l).unlisted)
 
-  pub regions_of : Passes s flags → GoodRegions s
-  regions_of p = record {
+  pub regions_of : length s.reglist ≡ 32 → Passes s flags → GoodRegions s
+  regions_of 32-long p = record {
     most = p.ids.most;
     places = placed 32-long p.regions;
     slots = λ i l. record {
@@ -112,8 +100,8 @@ module _ {s : Space} {flags : List ℕ} (32-long : length s.reglist ≡ 32) (64-
       parent_slot : (i : ℕ) → In s.reglist s.regcount i → (region_at s i).parent ≤ 32
       parent_slot i m = subst (λ (j : ℕ). (region_at s j).parent ≤ 32) m.2 (listed_parent m.0 m.1 (same? _ _))
 
-  pub mappings_of : Passes s flags → GoodMappings s flags
-  mappings_of p = record {
+  pub mappings_of : length s.maplist ≡ 64 → Passes s flags → GoodMappings s flags
+  mappings_of 64-long p = record {
     lent = p.lent;
     places = placed 64-long p.mappings;
     slots = λ i l. record {
@@ -130,14 +118,3 @@ module _ {s : Space} {flags : List ℕ} (32-long : length s.reglist ≡ 32) (64-
     };
     pages = p.pages;
   }
-
--- a slot has at most 512 pages, a free one none
-pub few : (s : Space) → MappingSlots s → (i : ℕ) → i < 64 → (mapping_at s i).size / 4096 ≤ 512
-few s m i l = by (mapping_at s i).live refl
-  where
-    by : (b : Bool) → (mapping_at s i).live ≡ b → (mapping_at s i).size / 4096 ≤ 512
-    by true e = ((m i l).good e).paged.few
-    by false e = let z = ap (λ (x : Mapping). x.size) ((m i l).blank e) in omega arith
-
-pub fitting_of : (s : Space) (flags : List ℕ) → GoodRegions s → GoodMappings s flags → Fitting s
-fitting_of s flags r m = fitting s (blank_of r m) (λ i l a. ((r.slots i l).good a).end) (λ i l a. ((m.slots i l).good a).paged.end)

@@ -1,10 +1,6 @@
 -- One page's flags, as the check gathers what is wrong of them: known, and with these others beside READ, WRITE and EXECUTE.
-use Prim.Native.Nat.{ℕ}
-use mathlib.Core.Path.{◌≡◌, sym, ◌∙◌}
-use mathlib.Core.Bool.{true}
-use native.Mathlib.Omega.{arith}
-use lib.Bits.{bit_and, bit_or, bit_xor, and_high}
-use borrow.Author.Tests.{eq-eqb, eqb-true}
+use Rattle.std.proofs.Common.{◌≡◌, ℕ, true, sym, ◌∙◌, arith, eq-eqb, eqb-true, bit_and, bit_or}
+use Rattle.std.specs.Int.Bits.{bit_xor, and_high}
 use Rattle.common.specs.Flags.{of_five, known_page}
 use Rattle.common.proofs.Sets.{five}
 use Rattle.scan.proofs.Gather.{or_left, or_right, or_of, xor_same, xor_of}

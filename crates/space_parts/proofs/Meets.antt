@@ -1,12 +1,6 @@
 -- Ranges by their ends; and that ends fit in a space that passes its check.
-use Prim.Native.Nat.{ℕ, ◌+◌, ◌^◌, ◌≤◌, ◌<◌}
-use mathlib.Core.Path.{◌≡◌, refl, ap}
-use mathlib.Core.Bool.{true, false}
-use mathlib.Core.List.{List}
-use mathlib.Core.Logic.{⊎_elim}
-use native.Mathlib.Omega.{arith}
-use lib.Dec.{leb}
-use borrow.Author.Tests.{le-leb, lt-leb}
+use Rattle.std.proofs.Common.{◌≡◌, ℕ, ◌+◌, ◌^◌, ◌<◌, ◌≤◌, true, false, List, refl, ap, ⊎_elim, arith}
+use Rattle.std.proofs.lemmas.Bool.Decides.{nat_tests}
 use Rattle.scan.proofs.Scans.{tell}
 use Rattle.space.specs.Range.{overlap}
 use Rattle.space.specs.Space.{region_at, mapping_at}
@@ -20,24 +14,15 @@ use Rattle.space_parts.specs.Parts.{Fitting, meet}
 -- by what the tests show
 pub meets : (a e b f : ℕ) → a < f → b < e → meet a e b f ≡ true
 unfolding meet
-meets a e b f l h = rw (lt-leb f a l, lt-leb e b h)
+meets a e b f l h = grind (arith, nat_tests)
 
 pub ends_before : (a e b f : ℕ) → f ≤ a → meet a e b f ≡ false
 unfolding meet
-ends_before a e b f l = rw (le-leb f a l)
+ends_before a e b f l = grind (arith, nat_tests)
 
 pub begins_after : (a e b f : ℕ) → e ≤ b → meet a e b f ≡ false
 unfolding meet
-begins_after a e b f l = ⊎_elim (λ (t : leb f a ≡ true). rw t) (λ (t : leb f a ≡ false). rw (t, le-leb e b l)) (tell (leb f a))
-
--- it does not matter which is named first
-pub meet_turned : (a e b f : ℕ) → meet a e b f ≡ meet b f a e
-unfolding meet
-meet_turned a e b f =
-    ⊎_elim
-    (λ (t : leb f a ≡ true). ⊎_elim (λ (u : leb e b ≡ true). rw (t, u)) (λ (u : leb e b ≡ false). rw (t, u)) (tell (leb e b)))
-    (λ (t : leb f a ≡ false). ⊎_elim (λ (u : leb e b ≡ true). rw (t, u)) (λ (u : leb e b ≡ false). rw (t, u)) (tell (leb e b)))
-    (tell (leb f a))
+begins_after a e b f l = grind (arith, nat_tests)
 
 pub meet_overlap : (a n b m : ℕ) → meet a (a + n) b (b + m) ≡ overlap a n b m
 unfolding meet overlap

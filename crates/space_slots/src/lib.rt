@@ -1,184 +1,106 @@
-// Of BAD_SPACE: the two lists, what each slot holds, and the tree. A space goes by value, so that an inner loop must not hand it on: each clause is one function
-// with its loops inside, and what is asked of one record is a function of records.
+// Of BAD_SPACE: the two lists, what each slot holds, and the tree.
 #![tactic(auto)]
 
-ghost use Rattle.std.specs.Prelude.{◌≡◌, ℕ, ◌/◌, ◌<◌, ◌≤◌, length, get_or};
-ghost use Rattle.paging.specs.Choice.{Decided};
-ghost use Rattle.space.specs.Space.{blank_region, blank_mapping};
+ghost use Rattle.std.specs.Prelude.{◌↔◌, ◌≡◌, ℕ, ◌<◌, ◌≤◌, IsTrue, length, slice_index};
+ghost use Rattle.space.specs.Space.{region_at, mapping_at};
 ghost use Rattle.space.specs.Passes.{In, RootRange};
 ghost use Rattle.space_slots.specs.Slots.{Places, GoodRegion, RegionSlot, RegionSlots, TreePlace, TreePlaces, GoodMapping, MappingSlot, MappingSlots};
 
-use common::defs::{MMUFlags, VmarFlags};
+use common::defs::{MMUFlags, PAGE_SIZE, VmarFlags};
 use space::{
-    KERNEL_ASPACE_BASE, KERNEL_ASPACE_SIZE, LAST, MAPPINGS, Mapping, NO_REGION, REGIONS, Region,
-    Space, USER_ASPACE_BASE, USER_ASPACE_SIZE,
+    KERNEL_ASPACE_BASE, KERNEL_ASPACE_SIZE, LAST, MAPPINGS, MOST, Mapping, NO_REGION, REGIONS,
+    Region, Space, USER_ASPACE_BASE, USER_ASPACE_SIZE,
 };
 
 // Whether x stands among the first n places.
 fn has(list: &[usize], n: usize, x: usize) -> bool
     requires { n ≤ length list.now }
-    ensures { Decided (In list.now n x) result }
+    ensures { IsTrue result ↔ In list.now n x }
 {
-    let mut k = 0;
-    while k < n {
-        if list[k] == x {
-            return true;
-        }
-        k += 1;
-    }
-    false
+    list[..n].contains(&x)
+}
+
+// Whether place k holds a slot that none before it holds.
+fn is_new_slot(list: &[usize], k: usize) -> bool
+    requires { k < length list.now }
+    ensures { IsTrue result ↔ (slice_index list.now k < length list.now) × (In list.now k (slice_index list.now k) → ⊥) }
+{
+    list[k] < list.len() && !has(list, k, list[k])
+}
+
+fn are_zero(places: &[usize]) -> bool
+    ensures { IsTrue result ↔ ((k : ℕ) → k < length places.now → slice_index places.now k ≡ 0) }
+{
+    places.iter().all(|slot| *slot == 0)
 }
 
 // Whether the first `count` places hold slots, none of them twice, and the other places 0.
 pub fn is_list(list: &[usize], count: usize) -> bool
-    ensures { Decided (Places list.now count) result }
+    ensures { IsTrue result ↔ Places list.now count }
 {
     if list.len() < count {
         return false;
     }
-    let mut k = 0;
-    while k < count {
-        let slot = list[k];
-        if list.len() <= slot {
+    for k in 0..count {
+        if !is_new_slot(list, k) {
             return false;
         }
-        if has(list, k, slot) {
-            return false;
-        }
-        k += 1;
     }
-    while k < list.len() {
-        if list[k] != 0 {
-            return false;
-        }
-        k += 1;
-    }
-    true
+    are_zero(&list[count..])
 }
 
-// A slot to read in place of r, whatever r is.
-fn pin(r: usize) -> usize
-    ensures { (result < 32) × (r < 32 → result ≡ r) }
+// The record of slot r; a slot past the last reads as a free one.
+fn region_at(s: &Space, r: usize) -> Region
+    ensures { result ≡ region_at s.now r }
 {
-    if r < REGIONS {
-        return r;
-    }
-    0
+    s.regions.get(r).copied().unwrap_or(Region::BLANK)
 }
 
 fn is_root_range(addr: u64, size: u64) -> bool
-    ensures { Decided (RootRange addr size) result }
+    ensures { IsTrue result ↔ RootRange addr size }
 {
-    if addr == USER_ASPACE_BASE {
-        return size == USER_ASPACE_SIZE;
+    match addr {
+        USER_ASPACE_BASE => size == USER_ASPACE_SIZE,
+        KERNEL_ASPACE_BASE => size == KERNEL_ASPACE_SIZE,
+        _ => false,
     }
-    if addr == KERNEL_ASPACE_BASE {
-        return size == KERNEL_ASPACE_SIZE;
-    }
-    false
-}
-
-fn is_blank_region(g: Region) -> bool
-    ensures { Decided (g ≡ blank_region) result }
-{
-    if g.live {
-        return false;
-    }
-    if g.id != 0 {
-        return false;
-    }
-    if g.addr != 0 {
-        return false;
-    }
-    if g.size != 0 {
-        return false;
-    }
-    if g.flags != 0 {
-        return false;
-    }
-    g.parent == 0
-}
-
-fn is_blank_mapping(m: Mapping) -> bool
-    ensures { Decided (m ≡ blank_mapping) result }
-{
-    if m.live {
-        return false;
-    }
-    if m.region != 0 {
-        return false;
-    }
-    if m.addr != 0 {
-        return false;
-    }
-    if m.size != 0 {
-        return false;
-    }
-    if m.vmo != 0 {
-        return false;
-    }
-    if m.offset != 0 {
-        return false;
-    }
-    m.permissions == 0
 }
 
 // What is asked of the live region g whose parent's record is p.
 fn is_good_region(g: Region, p: Region, nextid: u64) -> bool
-    ensures { Decided (GoodRegion g p nextid) result }
+    ensures { IsTrue result ↔ GoodRegion g p nextid }
 {
-    if !VmarFlags(g.flags).is_known() {
-        return false;
-    }
-    if nextid <= g.id {
-        return false;
-    }
-    if !space::sum_le(g.addr, g.size, LAST) {
+    if !VmarFlags(g.flags).is_known() || nextid <= g.id || !space::sum_le(g.addr, g.size, LAST) {
         return false;
     }
     if g.parent == NO_REGION {
         return is_root_range(g.addr, g.size);
     }
-    if NO_REGION < g.parent {
-        return false;
-    }
-    space::within(g.addr, g.size, p.addr, p.size)
+    g.parent < NO_REGION && space::within(g.addr, g.size, p.addr, p.size)
 }
 
-// What is asked of region slot i: listed if live, else blank.
-fn is_region_slot(list: &[usize], count: usize, g: Region, p: Region, nextid: u64, i: usize) -> bool
-    requires { count ≤ length list.now }
-    ensures { Decided (RegionSlot list.now count g p nextid i) result }
+// What is asked of region slot i: listed and good if it lives, else blank.
+fn is_region_slot(s: &Space, i: usize) -> bool
+    requires { (s.now.regcount ≤ 32) × (i < 32) }
+    ensures { IsTrue result ↔ RegionSlot s.now.reglist s.now.regcount (region_at s.now i) (region_at s.now (region_at s.now i).parent) s.now.nextid i }
 {
-    let listed = has(list, count, i);
+    let g = s.regions[i];
+    let listed = has(&s.reglist, s.regcount, i);
     if g.live {
-        if !listed {
-            return false;
-        }
-        return is_good_region(g, p, nextid);
+        listed && is_good_region(g, region_at(s, g.parent), s.nextid)
+    } else {
+        !listed && g == Region::BLANK
     }
-    if listed {
-        return false;
-    }
-    is_blank_region(g)
 }
 
-pub fn are_region_slots(s: Space) -> bool
-    requires { s.regcount ≤ 32 }
-    ensures { Decided (RegionSlots s) result }
+pub fn are_region_slots(s: &Space) -> bool
+    requires { s.now.regcount ≤ 32 }
+    ensures { IsTrue result ↔ RegionSlots s.now }
 {
-    let list = s.reglist;
-    let count = s.regcount;
-    let nextid = s.nextid;
-    let mut i = 0;
-    while i < REGIONS {
-        let g = s.regions[i];
-        let up = pin(g.parent);
-        let p = s.regions[up];
-        if !is_region_slot(&list, count, g, p, nextid, i) {
+    for i in 0..REGIONS {
+        if !is_region_slot(s, i) {
             return false;
         }
-        i += 1;
     }
     true
 }
@@ -186,97 +108,61 @@ pub fn are_region_slots(s: Space) -> bool
 // What is asked of the region at place k: it is the root, or stands after its parent.
 fn is_tree_place(list: &[usize], k: usize, parent: usize) -> bool
     requires { k ≤ length list.now }
-    ensures { Decided (TreePlace list.now k parent) result }
+    ensures { IsTrue result ↔ TreePlace list.now k parent }
 {
     if parent == NO_REGION {
-        return k == 0;
+        k == 0
+    } else {
+        has(list, k, parent)
     }
-    has(list, k, parent)
 }
 
-pub fn is_tree(s: Space) -> bool
-    requires { (s.regcount ≤ 32) × ((k : ℕ) → k < s.regcount → get_or s.reglist k 0 < 32) }
-    ensures { Decided (TreePlaces s) result }
+pub fn is_tree(s: &Space) -> bool
+    requires { (s.now.regcount ≤ 32) × ((k : ℕ) → k < s.now.regcount → slice_index s.now.reglist k < 32) }
+    ensures { IsTrue result ↔ TreePlaces s.now }
 {
-    let list = s.reglist;
-    let mut k = 0;
-    while k < s.regcount {
-        let slot = list[k];
-        let g = s.regions[slot];
-        if !is_tree_place(&list, k, g.parent) {
-            return false;
-        }
-        k += 1;
-    }
-    true
+    (0..s.regcount).all(|k| is_tree_place(&s.reglist, k, s.regions[s.reglist[k]].parent))
 }
 
 // What is asked of the live mapping m whose region's record is p.
 fn is_good_mapping(m: Mapping, p: Region) -> bool
-    ensures { Decided (GoodMapping m p) result }
+    ensures { IsTrue result ↔ GoodMapping m p }
 {
-    if REGIONS <= m.region {
-        return false;
-    }
-    if !p.live {
-        return false;
-    }
-    if !space::within(m.addr, m.size, p.addr, p.size) {
-        return false;
-    }
-    if m.addr % 4096 != 0 {
-        return false;
-    }
-    if m.size % 4096 != 0 {
-        return false;
-    }
-    if m.offset % 4096 != 0 {
-        return false;
-    }
-    if !space::sum_le(m.addr, m.size, LAST) {
-        return false;
-    }
-    if !space::sum_le(m.offset, m.size, LAST) {
-        return false;
-    }
-    if 512 < m.size / 4096 {
-        return false;
-    }
-    MMUFlags(m.permissions).is_known()
+    m.region < REGIONS
+        && p.live
+        && space::within(m.addr, m.size, p.addr, p.size)
+        && m.addr % PAGE_SIZE == 0
+        && m.size % PAGE_SIZE == 0
+        && m.offset % PAGE_SIZE == 0
+        && space::sum_le(m.addr, m.size, LAST)
+        && space::sum_le(m.offset, m.size, LAST)
+        && m.size <= MOST
+        && MMUFlags(m.permissions).is_known()
 }
 
-fn is_mapping_slot(list: &[usize], count: usize, m: Mapping, p: Region, i: usize) -> bool
-    requires { count ≤ length list.now }
-    ensures { Decided (MappingSlot list.now count m p i) result }
+// What is asked of mapping slot i: listed and good if it lives, else blank. One function with `is_region_slot` would take both tests as closures, and say
+// in its clauses what each call of them gives.
+fn is_mapping_slot(s: &Space, i: usize) -> bool
+    requires { (s.now.mapcount ≤ 64) × (i < 64) }
+    ensures { IsTrue result ↔ MappingSlot s.now.maplist s.now.mapcount (mapping_at s.now i) (region_at s.now (mapping_at s.now i).region) i }
 {
-    let listed = has(list, count, i);
+    let m = s.mappings[i];
+    let listed = has(&s.maplist, s.mapcount, i);
     if m.live {
-        if !listed {
-            return false;
-        }
-        return is_good_mapping(m, p);
+        listed && is_good_mapping(m, region_at(s, m.region))
+    } else {
+        !listed && m == Mapping::BLANK
     }
-    if listed {
-        return false;
-    }
-    is_blank_mapping(m)
 }
 
-pub fn are_mapping_slots(s: Space) -> bool
-    requires { s.mapcount ≤ 64 }
-    ensures { Decided (MappingSlots s) result }
+pub fn are_mapping_slots(s: &Space) -> bool
+    requires { s.now.mapcount ≤ 64 }
+    ensures { IsTrue result ↔ MappingSlots s.now }
 {
-    let list = s.maplist;
-    let count = s.mapcount;
-    let mut i = 0;
-    while i < MAPPINGS {
-        let m = s.mappings[i];
-        let up = pin(m.region);
-        let p = s.regions[up];
-        if !is_mapping_slot(&list, count, m, p, i) {
+    for i in 0..MAPPINGS {
+        if !is_mapping_slot(s, i) {
             return false;
         }
-        i += 1;
     }
     true
 }

@@ -1,4 +1,5 @@
 -- All cuts, one after another.
+use Rattle.std.specs.Prelude.{Err}
 use Prim.Native.Nat.{ℕ, ◌+◌, ◌*◌, ◌/◌, ◌≤◌, ◌<◌}
 use mathlib.Core.Path.{◌≡◌, refl, sym, ◌∙◌, ap, subst}
 use mathlib.Core.List.{List, [], ◌∷◌}
@@ -13,7 +14,6 @@ use Rattle.walk.specs.Walk.{found}
 use Rattle.walk.specs.declared.Walk.{Walk}
 use Rattle.walk.specs.declared.Walk.TheVariants.{Leaf, Open}
 use Rattle.table.specs.Table.{queried}
-use Rattle.table.specs.declared.QueryResult.TheVariants as query
 use Rattle.table_split.specs.Split.{Tables}
 use Rattle.table_unmap_cont.specs.Demand.{free, answered}
 use Rattle.table_cuts.specs.Cuts.{Cut, Fits, Among, cut_one, cut_all, non_empty}
@@ -32,10 +32,10 @@ within_canonical : (a e v : ℕ) → Within 4 a e → a ≤ v → v < e → Cano
 within_canonical a e v w h l = ⊎_elim (λ k. inl (omega arith)) (λ k. inr (omega (arith, k.0), omega (arith, k.1))) w.1
 
 -- what has no frame, `query` refuses
-no_frame : (p : List ℕ) (b v : ℕ) → answered (queried p b v) ≡ nowhere → queried p b v ≡ query.Refused NotMapped
+no_frame : (p : List ℕ) (b v : ℕ) → answered (queried p b v) ≡ nowhere → queried p b v ≡ Err NotMapped
 no_frame p b v q = go (found p b v) refl
   where
-    go : (w : Walk) → found p b v ≡ w → queried p b v ≡ query.Refused NotMapped
+    go : (w : Walk) → found p b v ≡ w → queried p b v ≡ Err NotMapped
     go (Open o) e = rw e
     go (Leaf l) e = let z : ◌≡◌ {A = ℕ} 0 1 = let y = rw e at q in cc in absurd (omega arith)
 
@@ -76,7 +76,7 @@ module _ (p : List ℕ) (base used : ℕ) (c : Cut) (cs : List Cut) (G : Good p 
   rest_room = let w = cut_few p base used G c F r in let e = cut_long p base used G c F in rw e (omega (arith, w.1))
 
   module _ (t : Tables) (C : AllCut u.pool base u.used cs t) where
-    inside : (v : ℕ) (d : Cut) → Among d (c ∷ cs) → d.addr ≤ v → v < d.addr + d.len → queried t.pool (base / 4096) v ≡ query.Refused NotMapped
+    inside : (v : ℕ) (d : Cut) → Among d (c ∷ cs) → d.addr ≤ v → v < d.addr + d.len → queried t.pool (base / 4096) v ≡ Err NotMapped
     inside v d m a h = ⊎_elim
         (λ (e : d ≡ c). ⊎_elim
         (λ (k : Lies v cs). C.inside v k.0 k.1 k.2 k.3)

@@ -1,4 +1,5 @@
 -- One cut: what it leaves, whether it is refused or not.
+use Rattle.std.specs.Prelude.{Err, Ok, Result}
 use Prim.Native.Nat.{ℕ, zero, suc, ◌+◌, ◌-◌, ◌*◌, ◌/◌, ◌%◌, ◌≤◌, ◌<◌}
 use mathlib.Core.Path.{◌≡◌, refl, sym, ◌∙◌, ap, subst}
 use mathlib.Core.Bool.{Bool, true, false}
@@ -17,17 +18,15 @@ use Rattle.walk.specs.Walk.{found}
 use Rattle.walk.specs.declared.Walk.{Walk}
 use Rattle.walk.specs.declared.Walk.TheVariants.{Leaf, Open}
 use Rattle.table.specs.Table.{by_leaf, queried}
-use Rattle.table.specs.declared.QueryResult.TheVariants as query
 use Rattle.pool.specs.Pool.{put_word}
 use Rattle.table_split.specs.Split.{Tables, needed}
 use Rattle.table_split.proofs.Ends.{D₁, D₂}
 use Rattle.table_unmap_cont.specs.UnmapCont.{emptied, after, cleared, ContUnmapping, unmap_cont}
 use Rattle.table_unmap_cont.specs.Demand.{frames_for, free, answered, Demand}
-use Rattle.table_unmap_cont.specs.declared.UnmapContResult.{UnmapContResult}
-use Rattle.table_unmap_cont.specs.declared.UnmapContResult.TheVariants.{Unmapped, Refused}
 use Rattle.table_unmap_cont.proofs.Calls.{cont_empty, cont_short, cont_done}
 use Rattle.table_unmap_cont.proofs.Demand.{demands}
 use Rattle.table_cuts.specs.Cuts.{Cut, Fits, taken, cut_one}
+use Rattle.refusal.specs.declared.Refusal.{Refusal}
 
 -- emptying entries leaves the pool as long as it was
 emptied_long : (p : List ℕ) (b v : ℕ) → length (emptied p b v) ≡ length p
@@ -69,7 +68,7 @@ module _ (p : List ℕ) (base used : ℕ) (G : Good p base used) (c : Cut) (F : 
   cut_good =
       ⊎_elim
       (λ (l : free p used < need). subst (λ (x : ContUnmapping). Good x.pool base (used + taken x.result)) (sym (D.refused l)) (subst (Good p base) (omega arith) G))
-      (λ (l : need ≤ free p used). let k = D.carried l in subst (λ (x : UnmapContResult). Good o.pool base (used + taken x)) (sym k.0) k.1.good)
+      (λ (l : need ≤ free p used). let k = D.carried l in subst (λ (x : Result ℕ Refusal). Good o.pool base (used + taken x)) (sym k.0) k.1.good)
       (below? (free p used) need)
 
   pub cut_long : length t.pool ≡ length p
@@ -107,11 +106,11 @@ module _ (p : List ℕ) (base used : ℕ) (G : Good p base used) (c : Cut) (F : 
           ⊎_elim
           (λ (l : free p used < need).
           let r = ap (λ (x : ContUnmapping). x.result) (D.refused l) in
-          let clash : Unmapped 0 ≡ Refused NoFrames = d ∙ r in
+          let clash : Ok 0 ≡ Err NoFrames = d ∙ r in
           let z : ◌≡◌ {A = ℕ} 0 1 = cc in
           absurd (omega arith))
           (λ (l : need ≤ free p used).
-          let same : Unmapped 0 ≡ Unmapped need = d ∙ (D.carried l).0 in
+          let same : Ok 0 ≡ Ok need = d ∙ (D.carried l).0 in
           let z : 0 ≡ need = cc in
           omega arith)
           (below? (free p used) need)
@@ -121,12 +120,12 @@ module _ (p : List ℕ) (base used : ℕ) (G : Good p base used) (c : Cut) (F : 
     carries : need ≤ free p used
     carries = let f = few in omega arith
 
-    pub cut_carried : o.result ≡ Unmapped need
+    pub cut_carried : o.result ≡ Ok need
     cut_carried = (D.carried carries).0
 
     pub cut_takes : t.used ≡ used + need
     unfolding cut_one
-    cut_takes = ap (λ (x : UnmapContResult). used + taken x) cut_carried
+    cut_takes = ap (λ (x : Result ℕ Refusal). used + taken x) cut_carried
 
     pub cut_few : (used ≤ t.used) × (t.used ≤ used + 4 * some c)
     cut_few = let f = few in let k = cut_takes in (omega arith, omega arith)
@@ -135,12 +134,12 @@ module _ (p : List ℕ) (base used : ℕ) (G : Good p base used) (c : Cut) (F : 
     unfolding cut_one
     cut_outside v k h = (D.carried carries).1.outside v k h
 
-    pub cut_inside : (v : ℕ) → c.addr ≤ v → v < c.addr + c.len → queried t.pool (base / 4096) v ≡ query.Refused NotMapped
+    pub cut_inside : (v : ℕ) → c.addr ≤ v → v < c.addr + c.len → queried t.pool (base / 4096) v ≡ Err NotMapped
     unfolding cut_one
     cut_inside v a h = (D.carried carries).1.inside v a h
 
 -- the code's answer is the definition's, and the pool stays good
-module _ (p q : List ℕ) (base used : ℕ) (G : Good p base used) (c : Cut) (F : Fits c) (r : UnmapContResult) (n : ℕ)
+module _ (p q : List ℕ) (base used : ℕ) (G : Good p base used) (c : Cut) (F : Fits c) (r : Result ℕ Refusal) (n : ℕ)
     (e : record { result = r; pool = q } ≡ unmap_cont p (base / 4096) used c.addr c.len) (k : n ≡ used + taken r) where
   pub answer_is : record { pool = q; used = n } ≡ cut_one (base / 4096) c (record { pool = p; used = used })
   unfolding cut_one

@@ -1,13 +1,12 @@
 -- A sequence of cuts of the table. The region calls that cut do one after another, each by `unmap_cont`: document 01, 'What must change shape', "`Drop`: an explicit cut".
 -- "A frame is taken at `used`", so that the order of the cuts decides which frame becomes which table, and is part of what a call promises.
-use Rattle.std.specs.Prelude.{ℕ, ◌+◌, ◌%◌, ◌≡◌, List, [], ◌∷◌, eqb}
+use Rattle.std.specs.Prelude.{ℕ, ◌+◌, ◌%◌, ◌≡◌, List, [], ◌∷◌, eqb, Err, Ok, Result}
 use mathlib.Core.List as list
 use Rattle.paging.specs.Choice.{pick}
 use Rattle.paging.specs.Level.{Within}
 use Rattle.table_split.specs.Split.{Tables}
 use Rattle.table_unmap_cont.specs.UnmapCont.{unmap_cont}
-use Rattle.table_unmap_cont.specs.declared.UnmapContResult.{UnmapContResult}
-use Rattle.table_unmap_cont.specs.declared.UnmapContResult.TheVariants.{Unmapped, Refused}
+use Rattle.refusal.specs.declared.Refusal.{Refusal}
 
 -- a range that is cut: len bytes from addr on
 pub record Cut : Type 0 where
@@ -25,9 +24,9 @@ abbrev pub Among : Cut → List Cut → Type 0
 Among c cs = list.Memᴰ c cs
 
 -- the frames that an answer says are taken; a refused cut takes none and changes no word
-abbrev pub taken : UnmapContResult → ℕ
-taken (Unmapped n) = n
-taken (Refused why) = 0
+abbrev pub taken : Result ℕ Refusal → ℕ
+taken (Ok n) = n
+taken (Err why) = 0
 
 -- one cut of the table whose first frame has the number b
 unfoldable pub cut_one : ℕ → Cut → Tables → Tables

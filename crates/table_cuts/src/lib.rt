@@ -7,7 +7,6 @@ ghost use Rattle.form.specs.Form.{Good};
 ghost use Rattle.table_cuts.specs.Cuts.{Fits, cut_one};
 
 use common::defs::VirtAddr;
-use table_unmap_cont::UnmapContResult;
 
 // Removes whatever is mapped in the `len` bytes from `addr` on; the answer is the number of frames in use afterwards.
 pub fn cut_one(pool: &mut [u64], base: u64, used: usize, addr: VirtAddr, len: u64) -> usize
@@ -17,7 +16,7 @@ pub fn cut_one(pool: &mut [u64], base: u64, used: usize, addr: VirtAddr, len: u6
     ensures stays_good { Good pool.new base result }
 {
     match table_unmap_cont::unmap_cont(pool, base, used, addr, len) {
-        UnmapContResult::Unmapped(taken) => used + taken,
-        UnmapContResult::Refused(why) => used,
+        Ok(taken) => used + taken,
+        Err(_) => used,
     }
 }

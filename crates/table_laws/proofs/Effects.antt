@@ -1,4 +1,5 @@
 -- What the four calls mean for every address.
+use Rattle.std.specs.Prelude.{Err, Ok, Option, Result}
 use Prim.Native.Nat.{ℕ, ◌+◌, ◌-◌, ◌/◌, ◌%◌, ◌^◌, ◌≤◌, ◌<◌}
 use mathlib.Core.Path.{◌≡◌, refl, sym, ap, ◌∙◌, subst}
 use mathlib.Core.Bool.{Bool, true, false}
@@ -28,15 +29,8 @@ use Rattle.walk.specs.declared.LeafEntry.{LeafEntry}
 use Rattle.walk.specs.declared.OpenEntry.{OpenEntry}
 use Rattle.walk.proofs.Found.{Placed, over, unused}
 use Rattle.table.specs.Table.{queried, unmapped, Unmapping, misplaced, new_word, updated, Updating}
-use Rattle.table.specs.declared.QueryResult.{QueryResult}
-use Rattle.table.specs.declared.QueryResult.TheVariants as query
-use Rattle.table.specs.declared.UnmapResult.TheVariants as unmap
-use Rattle.table.specs.declared.UpdateResult.TheVariants as update
-use Rattle.table.specs.declared.NewAddr.{NewAddr}
-use Rattle.table.specs.declared.NewFlags.{NewFlags}
 use Rattle.table.proofs.Laws.{shown, gone, refused_address, rewritten}
 use Rattle.table_map.specs.Map.{filled, leaf_for, mapped, Mapping}
-use Rattle.table_map.specs.declared.MapResult.TheVariants as map
 use Rattle.walk.proofs.Sizes.{size_level, size_bytes}
 use Rattle.table_map.proofs.Fills.{table_there, short, done}
 use Rattle.table_laws.specs.Effects.{shows_in, translates_in, Rewrites, Adds, MapAnswer, in_the_way, Effects, EffectsHold}
@@ -73,49 +67,50 @@ module _ (p : List ℕ) (base used v : ℕ) (G : Good p base used) where
       let u = unused p b used G.formed v o q in
       ap (translated x86 v) (shown_at o.level o.frame o.place u.placed ∙ ap (view o.level) u.blank) ∙ nowhere_blank v o.level
 
-  pub queries : (a : ℕ) (f : MMUFlags) (s : PageSize) → queried p b v ≡ query.Page a f s → translates_in p base v ≡ to a f.0
+  pub queries : (a : ℕ) (f : MMUFlags) (s : PageSize) → queried p b v ≡ Ok (a, f, s) → translates_in p base v ≡ to a f.0
   queries a f s = go (found p b v) refl
     where
-      go : (r : Walk) → found p b v ≡ r → queried p b v ≡ query.Page a f s → translates_in p base v ≡ to a f.0
+      go : (r : Walk) → found p b v ≡ r → queried p b v ≡ Ok (a, f, s) → translates_in p base v ≡ to a f.0
       go (Leaf e) q h =
           let w : ℕ = word p e.frame e.place in
-          let same : query.Page (addr_of w + v % size_of e.size) (record { 0 = flags_of w }) e.size ≡ query.Page a f s = sym (shown p b v e q) ∙ h in
+          let same : Ok (addr_of w + v % size_of e.size, (record { 0 = flags_of w }), e.size) ≡ Ok (a, f, s) = sym (shown p b v e q) ∙ h in
           leaf_translates e q ∙ ap translation same
         where
-          translation : QueryResult → Translation
-          translation (query.Page x y z) = to x y.0
-          translation (query.Refused r) = nowhere
+          translation : Result (ℕ × MMUFlags × PageSize) Refusal → Translation
+          translation (Ok (x, y, z)) = to x y.0
+          translation (Err r) = nowhere
       go (Open o) q h =
-          let none : query.Refused NotMapped ≡ query.Page a f s = rw q at h in
+          let none : Err NotMapped ≡ Ok (a, f, s) = rw q at h in
           let z : ◌≡◌ {A = ℕ} 0 1 = cc in
           absurd (omega arith)
 
-  pub queries_not : queried p b v ≡ query.Refused NotMapped → translates_in p base v ≡ nowhere
+  pub queries_not : queried p b v ≡ Err NotMapped → translates_in p base v ≡ nowhere
   queries_not = go (found p b v) refl
     where
-      go : (r : Walk) → found p b v ≡ r → queried p b v ≡ query.Refused NotMapped → translates_in p base v ≡ nowhere
+      go : (r : Walk) → found p b v ≡ r → queried p b v ≡ Err NotMapped → translates_in p base v ≡ nowhere
       go (Leaf e) q h =
-          let some : query.Page (addr_of (word p e.frame e.place) + v % size_of e.size) (record { 0 = flags_of (word p e.frame e.place) }) e.size ≡ query.Refused NotMapped = sym (shown p b v e q) ∙ h in
+          let some : Ok ((addr_of (word p e.frame e.place) + v % size_of e.size), (record { 0 = flags_of (word p e.frame e.place) }), e.size) ≡ Err NotMapped = sym (shown p b v e q) ∙ h in
           let z : ◌≡◌ {A = ℕ} 0 1 = cc in
           absurd (omega arith)
       go (Open o) q h = open_translates o q
 
-  unmaps : (a : ℕ) (s : PageSize) → (unmapped p b v).result ≡ unmap.Unmapped a s
+  unmaps : (a : ℕ) (s : PageSize) → (unmapped p b v).result ≡ Ok (a, s)
       → (w : ℕ) × (shows_in p base v ≡ view (level_of s) w) × (a ≡ addr_of w) × Rewrites p (unmapped p b v).pool base used v (level_of s) 0
   unmaps a s = go (found p b v) refl
     where
-      go : (r : Walk) → found p b v ≡ r → (unmapped p b v).result ≡ unmap.Unmapped a s
+      go : (r : Walk) → found p b v ≡ r → (unmapped p b v).result ≡ Ok (a, s)
           → (w : ℕ) × (shows_in p base v ≡ view (level_of s) w) × (a ≡ addr_of w) × Rewrites p (unmapped p b v).pool base used v (level_of s) 0
       go (Open o) q h =
-          let none : unmap.Refused NotMapped ≡ unmap.Unmapped a s = rw q at h in
+          let none : Err NotMapped ≡ Ok (a, s) = rw q at h in
           let z : ◌≡◌ {A = ℕ} 0 1 = cc in
           absurd (omega arith)
       go (Leaf e) q h =
           let o = over p b used G.formed v e q in
           let w : ℕ = word p e.frame e.place in
-          let same : unmap.Unmapped (addr_of w) e.size ≡ unmap.Unmapped a s = sym (ap (λ (u : Unmapping). u.result) (gone p b v e q)) ∙ h in
-          let size : e.size ≡ s = cc in
-          let addr : addr_of w ≡ a = cc in
+          let same : Ok (addr_of w, e.size) ≡ Ok (a, s) = sym (ap (λ (u : Unmapping). u.result) (gone p b v e q)) ∙ h in
+          let pair : ◌≡◌ {A = ℕ × PageSize} (addr_of w, e.size) (a, s) = cc in
+          let size : e.size ≡ s = ap (λ (x : ℕ × PageSize). x.1) pair in
+          let addr : addr_of w ≡ a = ap (λ (x : ℕ × PageSize). x.0) pair in
           let l : o.l ≡ level_of s = sym (size_level o.l o.low) ∙ ap level_of (sym o.size ∙ size) in (
             w,
             shown_at o.l e.frame e.place o.placed ∙ ap (λ (m : ℕ). view m w) l,
@@ -125,16 +120,16 @@ module _ (p : List ℕ) (base used v : ℕ) (G : Good p base used) where
                 (rewrites p base used G v o.l e.frame e.place 0 o.placed (blank refl) (nothing_bar (lawful.blank o.l)))),
           )
 
-  updates : (n : NewAddr) (f : NewFlags) (s : PageSize) → (updated p b v n f).result ≡ update.Updated s
+  updates : (n : Option ℕ) (f : Option MMUFlags) (s : PageSize) → (updated p b v n f).result ≡ Ok s
       → (w : ℕ) × (shows_in p base v ≡ view (level_of s) w) × Rewrites p (updated p b v n f).pool base used v (level_of s) (new_word w s n f)
   updates n f s = go (found p b v) refl
     where
       Goal : Type 0
       Goal = (w : ℕ) × (shows_in p base v ≡ view (level_of s) w) × Rewrites p (updated p b v n f).pool base used v (level_of s) (new_word w s n f)
 
-      go : (r : Walk) → found p b v ≡ r → (updated p b v n f).result ≡ update.Updated s → Goal
+      go : (r : Walk) → found p b v ≡ r → (updated p b v n f).result ≡ Ok s → Goal
       go (Open o) q h =
-          let none : update.Refused NotMapped ≡ update.Updated s = rw q at h in
+          let none : Err NotMapped ≡ Ok s = rw q at h in
           let z : ◌≡◌ {A = ℕ} 0 1 = cc in
           absurd (omega arith)
       go (Leaf e) q h = tested (misplaced n e.size) refl
@@ -144,13 +139,13 @@ module _ (p : List ℕ) (base used v : ℕ) (G : Good p base used) where
 
           tested : (t : Bool) → misplaced n e.size ≡ t → Goal
           tested true m =
-              let none : update.Refused InvalidArgs ≡ update.Updated s = sym (ap (λ (u : Updating). u.result) (refused_address p b v e q n f m)) ∙ h in
+              let none : Err InvalidArgs ≡ Ok s = sym (ap (λ (u : Updating). u.result) (refused_address p b v e q n f m)) ∙ h in
               let z : ◌≡◌ {A = ℕ} 0 1 = cc in
               absurd (omega arith)
           tested false m =
               let o = over p b used G.formed v e q in
               let r = rewritten p b v e q n f m in
-              let same : update.Updated e.size ≡ update.Updated s = sym (ap (λ (u : Updating). u.result) r) ∙ h in
+              let same : Ok e.size ≡ Ok s = sym (ap (λ (u : Updating). u.result) r) ∙ h in
               let size : e.size ≡ s = cc in
               let l : o.l ≡ level_of s = sym (size_level o.l o.low) ∙ ap level_of (sym o.size ∙ size) in
               let L : LeafAt (level_of s) w = subst (λ (m : ℕ). LeafAt m w) l (record { fits = o.placed.fits; kind = o.kind }) in
@@ -164,29 +159,29 @@ module _ (p : List ℕ) (base used v : ℕ) (G : Good p base used) where
                     (rewrites p base used G v (level_of s) e.frame e.place (new_word w s n f) P N.fits (leaf_bar N.kind)),
               )
 
-  maps : (s : PageSize) (pa f used' : ℕ) → pa + size_of s ≤ 2 ^ 52 → (mapped p b used v pa s f).result ≡ map.Mapped used'
+  maps : (s : PageSize) (pa f used' : ℕ) → pa + size_of s ≤ 2 ^ 52 → (mapped p b used v pa s f).result ≡ Ok used'
       → Adds p (mapped p b used v pa s f).pool base used' v (level_of s) (leaf_for s pa f)
   maps s pa f used' room = go (found p b v) refl
     where
       Goal : Type 0
       Goal = Adds p (mapped p b used v pa s f).pool base used' v (level_of s) (leaf_for s pa f)
 
-      go : (r : Walk) → found p b v ≡ r → (mapped p b used v pa s f).result ≡ map.Mapped used' → Goal
+      go : (r : Walk) → found p b v ≡ r → (mapped p b used v pa s f).result ≡ Ok used' → Goal
       go (Leaf e) q h =
-          let none : map.Refused AlreadyMapped ≡ map.Mapped used' = rw q at h in
+          let none : Err AlreadyMapped ≡ Ok used' = rw q at h in
           let z : ◌≡◌ {A = ℕ} 0 1 = cc in
           absurd (omega arith)
       go (Open o) q h = ⊎_elim table_in_way (λ c. ⊎_elim (short_of c) (enough c) (below? (length p / 512 - used) (o.level - level_of s))) (below? o.level (level_of s))
         where
           table_in_way : o.level < level_of s → Goal
           table_in_way c =
-              let none : map.Refused AlreadyMapped ≡ map.Mapped used' = sym (ap (λ (u : Mapping). u.result) (table_there p b used v s pa f o q c)) ∙ h in
+              let none : Err AlreadyMapped ≡ Ok used' = sym (ap (λ (u : Mapping). u.result) (table_there p b used v s pa f o q c)) ∙ h in
               let z : ◌≡◌ {A = ℕ} 0 1 = cc in
               absurd (omega arith)
 
           short_of : level_of s ≤ o.level → length p / 512 - used < o.level - level_of s → Goal
           short_of c d =
-              let none : map.Refused NoFrames ≡ map.Mapped used' = sym (ap (λ (u : Mapping). u.result) (short p b used v s pa f o q c d)) ∙ h in
+              let none : Err NoFrames ≡ Ok used' = sym (ap (λ (u : Mapping). u.result) (short p b used v s pa f o q c d)) ∙ h in
               let z : ◌≡◌ {A = ℕ} 0 1 = cc in
               absurd (omega arith)
 
@@ -194,7 +189,7 @@ module _ (p : List ℕ) (base used v : ℕ) (G : Good p base used) where
           enough c d =
               let n : ℕ = o.level - level_of s in
               let r = done p b used v s pa f o q c d in
-              let same : map.Mapped (used + n) ≡ map.Mapped used' = sym (ap (λ (u : Mapping). u.result) r) ∙ h in
+              let same : Ok (used + n) ≡ Ok used' = sym (ap (λ (u : Mapping). u.result) r) ∙ h in
               let e : used + n ≡ used' = cc in
               let L = map_leaf s pa f room in
               let g = G.sized in
@@ -248,34 +243,34 @@ module _ (p : List ℕ) (base used v : ℕ) (G : Good p base used) where
 
 -- a refused call changes no word, whatever the pool is
 module _ (p : List ℕ) (b v : ℕ) where
-  pub unmap_refused_lem : (r : Refusal) → (unmapped p b v).result ≡ unmap.Refused r → (unmapped p b v).pool ≡ p
+  pub unmap_refused_lem : (r : Refusal) → (unmapped p b v).result ≡ Err r → (unmapped p b v).pool ≡ p
   unmap_refused_lem r = go (found p b v) refl
     where
-      go : (k : Walk) → found p b v ≡ k → (unmapped p b v).result ≡ unmap.Refused r → (unmapped p b v).pool ≡ p
+      go : (k : Walk) → found p b v ≡ k → (unmapped p b v).result ≡ Err r → (unmapped p b v).pool ≡ p
       go (Open o) q h = rw q
       go (Leaf e) q h =
-          let some : unmap.Unmapped (addr_of (word p e.frame e.place)) e.size ≡ unmap.Refused r = rw q at h in
+          let some : Ok ((addr_of (word p e.frame e.place)), e.size) ≡ Err r = rw q at h in
           let z : ◌≡◌ {A = ℕ} 0 1 = cc in
           absurd (omega arith)
 
-  pub update_refused_lem : (n : NewAddr) (f : NewFlags) (r : Refusal) → (updated p b v n f).result ≡ update.Refused r → (updated p b v n f).pool ≡ p
+  pub update_refused_lem : (n : Option ℕ) (f : Option MMUFlags) (r : Refusal) → (updated p b v n f).result ≡ Err r → (updated p b v n f).pool ≡ p
   update_refused_lem n f r = go (found p b v) refl
     where
-      go : (k : Walk) → found p b v ≡ k → (updated p b v n f).result ≡ update.Refused r → (updated p b v n f).pool ≡ p
+      go : (k : Walk) → found p b v ≡ k → (updated p b v n f).result ≡ Err r → (updated p b v n f).pool ≡ p
       go (Open o) q h = rw q
       go (Leaf e) q h = tested (misplaced n e.size) refl
         where
           tested : (t : Bool) → misplaced n e.size ≡ t → (updated p b v n f).pool ≡ p
           tested true m = rw (q, m)
           tested false m =
-              let some : update.Updated e.size ≡ update.Refused r = rw (q, m) at h in
+              let some : Ok e.size ≡ Err r = rw (q, m) at h in
               let z : ◌≡◌ {A = ℕ} 0 1 = cc in
               absurd (omega arith)
 
-  pub map_refused_lem : (used : ℕ) (s : PageSize) (pa f : ℕ) (r : Refusal) → (mapped p b used v pa s f).result ≡ map.Refused r → (mapped p b used v pa s f).pool ≡ p
+  pub map_refused_lem : (used : ℕ) (s : PageSize) (pa f : ℕ) (r : Refusal) → (mapped p b used v pa s f).result ≡ Err r → (mapped p b used v pa s f).pool ≡ p
   map_refused_lem used s pa f r = go (found p b v) refl
     where
-      go : (k : Walk) → found p b v ≡ k → (mapped p b used v pa s f).result ≡ map.Refused r → (mapped p b used v pa s f).pool ≡ p
+      go : (k : Walk) → found p b v ≡ k → (mapped p b used v pa s f).result ≡ Err r → (mapped p b used v pa s f).pool ≡ p
       go (Leaf e) q h = rw q
       go (Open o) q h = ⊎_elim (λ c. ap (λ (u : Mapping). u.pool) (table_there p b used v s pa f o q c)) (λ c. ⊎_elim
           (λ d. ap (λ (u : Mapping). u.pool) (short p b used v s pa f o q c d))
@@ -284,7 +279,7 @@ module _ (p : List ℕ) (b v : ℕ) where
         where
           succeeds : level_of s ≤ o.level → o.level - level_of s ≤ length p / 512 - used → ⊥
           succeeds c d =
-              let some : map.Mapped (used + (o.level - level_of s)) ≡ map.Refused r = sym (ap (λ (u : Mapping). u.result) (done p b used v s pa f o q c d)) ∙ h in
+              let some : Ok (used + (o.level - level_of s)) ≡ Err r = sym (ap (λ (u : Mapping). u.result) (done p b used v s pa f o q c d)) ∙ h in
               let z : ◌≡◌ {A = ℕ} 0 1 = cc in
               omega arith
 

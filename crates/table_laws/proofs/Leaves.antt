@@ -1,4 +1,5 @@
 -- The words that `update` and `map` write are leaves of their level.
+use Rattle.std.specs.Prelude.{None, Option, Some}
 use Prim.Native.Nat.{ℕ, ◌+◌, ◌-◌, ◌*◌, ◌/◌, ◌%◌, ◌^◌, ◌≤◌, ◌<◌}
 use mathlib.Core.Path.{◌≡◌, refl, sym, ap, ◌∙◌, subst}
 use mathlib.Core.Bool.{Bool, true, false}
@@ -18,11 +19,8 @@ use Rattle.x86_64.proofs.Words.{marks_lt}
 use Rattle.x86_64.proofs.Format.{lawful}
 use Rattle.x86_64.proofs.ReadBack.{huge_level}
 use Rattle.table.specs.Table.{misplaced, new_addr, new_word}
-use Rattle.table.specs.declared.NewAddr.{NewAddr}
-use Rattle.table.specs.declared.NewAddr.TheVariants as addr
-use Rattle.table.specs.declared.NewFlags.{NewFlags}
-use Rattle.table.specs.declared.NewFlags.TheVariants as flags
 use Rattle.table_map.specs.Map.{leaf_for}
+use Rattle.common.specs.declared.defs.MMUFlags.{MMUFlags}
 
 -- a word that is a leaf of level l
 pub record LeafAt (l w : ℕ) : Type 0 where
@@ -72,29 +70,29 @@ module _ (s : PageSize) (w : ℕ) (L : LeafAt (level_of s) w) where
           parts : (x y n r : ℕ) → n ≡ x + r → n - x + y ≡ y + r
           parts x y n r q = omega arith
 
-in_place : (s : PageSize) (p : ℕ) → misplaced (addr.To p) s ≡ false → InPlace s p
+in_place : (s : PageSize) (p : ℕ) → misplaced (Some p) s ≡ false → InPlace s p
 in_place s p = go (aligned s p) refl
   where
-    go : (t : Bool) → aligned s p ≡ t → misplaced (addr.To p) s ≡ false → InPlace s p
+    go : (t : Bool) → aligned s p ≡ t → misplaced (Some p) s ≡ false → InPlace s p
     go false e h = let z : true ≡ false = rw e at h in no_truth (sym z)
     go true e h =
         let l : p ≤ 2 ^ 52 - size_of s = ltb-false (2 ^ 52 - size_of s) p (rw e at h) in
         record { aligned = eqb-true (p % size_of s) 0 e; below = omega (arith, l, size_pos s, size_le s) }
 
 -- `update` writes a leaf of the same size over one
-pub new_leaf : (s : PageSize) (w : ℕ) → LeafAt (level_of s) w → (n : NewAddr) (f : NewFlags) → misplaced n s ≡ false → LeafAt (level_of s) (new_word w s n f)
+pub new_leaf : (s : PageSize) (w : ℕ) → LeafAt (level_of s) w → (n : Option ℕ) (f : Option MMUFlags) → misplaced n s ≡ false → LeafAt (level_of s) (new_word w s n f)
 new_leaf s w L n f m = rights f (move n m)
   where
-    move : (n : NewAddr) → misplaced n s ≡ false → LeafAt (level_of s) (new_addr w n)
-    move addr.Keep m = L
-    move (addr.To p) m =
+    move : (n : Option ℕ) → misplaced n s ≡ false → LeafAt (level_of s) (new_addr w n)
+    move None m = L
+    move (Some p) m =
         let i = in_place s p m in
         subst (LeafAt (level_of s)) (sym (moved s w L (addr_of p)))
         (leaf_of s (addr_of p) (flags_of w) (marks_of w) (rw (whole s p i) i) (marks_lt w))
 
-    rights : (f : NewFlags) → LeafAt (level_of s) (new_addr w n) → LeafAt (level_of s) (new_word w s n f)
-    rights flags.Keep K = K
-    rights (flags.To g) K = leaf_of s (addr_of (new_addr w n)) g.0 0 (stands s (new_addr w n) K) (lit< tt)
+    rights : (f : Option MMUFlags) → LeafAt (level_of s) (new_addr w n) → LeafAt (level_of s) (new_word w s n f)
+    rights None K = K
+    rights (Some g) K = leaf_of s (addr_of (new_addr w n)) g.0 0 (stands s (new_addr w n) K) (lit< tt)
 
 -- `map` writes a leaf of its size
 map_place : (s : PageSize) (pa : ℕ) → pa + size_of s ≤ 2 ^ 52 → InPlace s (pa - pa % size_of s)

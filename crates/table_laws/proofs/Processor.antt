@@ -1,4 +1,5 @@
 -- `query` against the processor.
+use Rattle.std.specs.Prelude.{Err, Ok}
 use Prim.Native.Nat.{ℕ, ◌+◌, ◌-◌, ◌*◌, ◌/◌, ◌%◌}
 use mathlib.Core.Path.{◌≡◌, refl, sym, ap, ◌∙◌}
 use mathlib.Core.Bool.{Bool, true, false}
@@ -23,7 +24,6 @@ use Rattle.walk.specs.declared.Walk.{Walk}
 use Rattle.walk.specs.declared.Walk.TheVariants.{Leaf, Open}
 use Rattle.walk.proofs.Found.{over}
 use Rattle.table.specs.Table.{queried}
-use Rattle.table.specs.declared.QueryResult.TheVariants.{Page, Refused}
 use Rattle.table.proofs.Laws.{shown}
 use Rattle.table_laws.specs.Processor.{InMemory, Processor, ProcessorAgrees}
 use Rattle.walk.proofs.Sizes.{size_bytes}
@@ -56,19 +56,20 @@ module _ (p : List ℕ) (base used : ℕ) (G : Good p base used) (mem : ℕ → 
   at_base v e = ap (λ (c : ℕ). intel mem c v) (sym whole) ∙ e
 
   -- the size of the processor's page is that of the leaf
-  same_size : (v a : ℕ) (f : MMUFlags) (s : PageSize) → queried p b v ≡ Page a f s → (size : ℕ) (r : Rights) → intel mem (b * 4096) v ≡ maps a size r → size ≡ size_of s
+  same_size : (v a : ℕ) (f : MMUFlags) (s : PageSize) → queried p b v ≡ Ok (a, f, s) → (size : ℕ) (r : Rights) → intel mem (b * 4096) v ≡ maps a size r → size ≡ size_of s
   same_size v a f s q size r i = go (found p b v) refl
     where
       go : (w : Walk) → found p b v ≡ w → size ≡ size_of s
       go (Open o) e =
-          let none : Refused NotMapped ≡ Page a f s = rw e at q in
+          let none : Err NotMapped ≡ Ok (a, f, s) = rw e at q in
           let z : ◌≡◌ {A = ℕ} 0 1 = cc in
           absurd (omega arith)
       go (Leaf e) h =
           let o = over p b used G.formed v e h in
           let w : ℕ = word p e.frame e.place in
-          let same : Page (addr_of w + v % size_of e.size) (record { 0 = flags_of w }) e.size ≡ Page a f s = sym (shown p b v e h) ∙ q in
-          let es : e.size ≡ s = cc in
+          let same : Ok (addr_of w + v % size_of e.size, (record { 0 = flags_of w }), e.size) ≡ Ok (a, f, s) = sym (shown p b v e h) ∙ q in
+          let page : ◌≡◌ {A = ℕ × MMUFlags × PageSize} (addr_of w + v % size_of e.size, record { 0 = flags_of w }, e.size) (a, f, s) = cc in
+          let es : e.size ≡ s = ap (λ (x : ℕ × MMUFlags × PageSize). x.2) page in
           let t : maps a size r ≡ as_intel v (shows x86 (mem_of p b) b v) = sym i ∙ agrees.agrees v in
           let u : maps a size r ≡ by_kind (kind_at o.l w) fault (pick (is_present w) (maps (addr_of w + v % span o.l) (span o.l) (rights_of w)) fault) (λ m. fault) =
           t ∙ ap (as_intel v) (shown_at p base used v G o.l e.frame e.place o.placed) in

@@ -1,6 +1,6 @@
 -- What the four calls on a well-formed table mean for every address: theorems about the definitions of table/specs/Table and
 -- table_map/specs/Map. `shows` is the level and the word at the end of an address's walk, `translates` its frame and rights.
-use Rattle.std.specs.Prelude.{ℕ, ◌+◌, ◌-◌, ◌/◌, ◌^◌, ◌≤◌, ◌<◌, ◌≡◌, ◌⊎◌, List, length}
+use Rattle.std.specs.Prelude.{ℕ, ◌+◌, ◌-◌, ◌/◌, ◌^◌, ◌≤◌, ◌<◌, ◌≡◌, ◌⊎◌, List, length, Err, Ok, Option, Result}
 use Rattle.paging.specs.Level.{span, Canonical}
 use Rattle.paging.specs.Format.{leaf}
 use Rattle.paging.specs.Table.{View, view, shows, Translation, to, nowhere, translates}
@@ -13,14 +13,7 @@ use Rattle.form.specs.Form.{Good}
 use Rattle.refusal.specs.declared.Refusal.{Refusal}
 use Rattle.refusal.specs.declared.Refusal.TheVariants.{NotMapped, AlreadyMapped, NoFrames}
 use Rattle.table.specs.Table.{queried, unmapped, new_word, updated}
-use Rattle.table.specs.declared.QueryResult.TheVariants as query
-use Rattle.table.specs.declared.UnmapResult.TheVariants as unmap
-use Rattle.table.specs.declared.UpdateResult.TheVariants as update
-use Rattle.table.specs.declared.NewAddr.{NewAddr}
-use Rattle.table.specs.declared.NewFlags.{NewFlags}
 use Rattle.table_map.specs.Map.{leaf_for, mapped}
-use Rattle.table_map.specs.declared.MapResult.{MapResult}
-use Rattle.table_map.specs.declared.MapResult.TheVariants as map
 
 -- what the pool p at this base shows of v, and what it translates v to
 abbrev pub shows_in : List ℕ → ℕ → ℕ → View
@@ -42,33 +35,33 @@ pub record Adds (p p' : List ℕ) (base used' v t w : ℕ) : Type 0 where
   pub outside : Canonical 4 v → (x : ℕ) → Canonical 4 x → (x / span t ≡ v / span t → ⊥) → translates_in p' base x ≡ translates_in p base x
 
 -- what a map of a page of level t answers, by what the table shows of v before: 7, 8 or success, one of them and no other
-pub data MapAnswer (p : List ℕ) (base used v t : ℕ) (r : MapResult) : Type 0 where
+pub data MapAnswer (p : List ℕ) (base used v t : ℕ) (r : Result ℕ Refusal) : Type 0 where
   -- "a used entry, or a larger leaf over the page": a leaf ends the walk, or the walk goes on below the page's level
-  in_the_way : (l w : ℕ) → shows_in p base v ≡ view l w → (x86.kind l w ≡ leaf) ⊎ (l < t) → r ≡ map.Refused AlreadyMapped → MapAnswer p base used v t r
+  in_the_way : (l w : ℕ) → shows_in p base v ≡ view l w → (x86.kind l w ≡ leaf) ⊎ (l < t) → r ≡ Err AlreadyMapped → MapAnswer p base used v t r
   -- "the pool is short": the tables from the unused entry down to the page are more than the free frames
-  short : (l : ℕ) → shows_in p base v ≡ view l 0 → t ≤ l → length p / 512 - used < l - t → r ≡ map.Refused NoFrames → MapAnswer p base used v t r
+  short : (l : ℕ) → shows_in p base v ≡ view l 0 → t ≤ l → length p / 512 - used < l - t → r ≡ Err NoFrames → MapAnswer p base used v t r
   -- each of them takes a frame
-  done : (l : ℕ) → shows_in p base v ≡ view l 0 → t ≤ l → l - t ≤ length p / 512 - used → r ≡ map.Mapped (used + (l - t)) → MapAnswer p base used v t r
+  done : (l : ℕ) → shows_in p base v ≡ view l 0 → t ≤ l → l - t ≤ length p / 512 - used → r ≡ Ok (used + (l - t)) → MapAnswer p base used v t r
 
 -- What is proved of every good pool and every address: `EffectsHold`, below. Where other addresses are spoken of, v and they are of the two halves.
 pub record Effects (p : List ℕ) (base used v : ℕ) : Type 0 where
   -- query answers what the address translates to, and refuses exactly where that is nothing
-  pub queries : (a : ℕ) (f : MMUFlags) (s : PageSize) → queried p (base / 4096) v ≡ query.Page a f s → translates_in p base v ≡ to a f.0
-  pub queries_not : queried p (base / 4096) v ≡ query.Refused NotMapped → translates_in p base v ≡ nowhere
+  pub queries : (a : ℕ) (f : MMUFlags) (s : PageSize) → queried p (base / 4096) v ≡ Ok (a, f, s) → translates_in p base v ≡ to a f.0
+  pub queries_not : queried p (base / 4096) v ≡ Err NotMapped → translates_in p base v ≡ nowhere
   -- unmap empties the leaf's entry, and answers the leaf's own address
-  pub unmaps : (a : ℕ) (s : PageSize) → (unmapped p (base / 4096) v).result ≡ unmap.Unmapped a s
+  pub unmaps : (a : ℕ) (s : PageSize) → (unmapped p (base / 4096) v).result ≡ Ok (a, s)
       → (w : ℕ) × (shows_in p base v ≡ view (level_of s) w) × (a ≡ addr_of w) × Rewrites p (unmapped p (base / 4096) v).pool base used v (level_of s) 0
   -- update rewrites the leaf's entry
-  pub updates : (n : NewAddr) (f : NewFlags) (s : PageSize) → (updated p (base / 4096) v n f).result ≡ update.Updated s
+  pub updates : (n : Option ℕ) (f : Option MMUFlags) (s : PageSize) → (updated p (base / 4096) v n f).result ≡ Ok s
       → (w : ℕ) × (shows_in p base v ≡ view (level_of s) w) × Rewrites p (updated p (base / 4096) v n f).pool base used v (level_of s) (new_word w s n f)
   -- map adds its page
-  pub maps : (s : PageSize) (pa f used' : ℕ) → pa + size_of s ≤ 2 ^ 52 → (mapped p (base / 4096) used v pa s f).result ≡ map.Mapped used'
+  pub maps : (s : PageSize) (pa f used' : ℕ) → pa + size_of s ≤ 2 ^ 52 → (mapped p (base / 4096) used v pa s f).result ≡ Ok used'
       → Adds p (mapped p (base / 4096) used v pa s f).pool base used' v (level_of s) (leaf_for s pa f)
   pub map_answer : (s : PageSize) (pa f : ℕ) → MapAnswer p base used v (level_of s) (mapped p (base / 4096) used v pa s f).result
   -- a refused call changes no word
-  pub unmap_keeps : (r : Refusal) → (unmapped p (base / 4096) v).result ≡ unmap.Refused r → (unmapped p (base / 4096) v).pool ≡ p
-  pub update_keeps : (n : NewAddr) (f : NewFlags) (r : Refusal) → (updated p (base / 4096) v n f).result ≡ update.Refused r → (updated p (base / 4096) v n f).pool ≡ p
-  pub map_keeps : (s : PageSize) (pa f : ℕ) (r : Refusal) → (mapped p (base / 4096) used v pa s f).result ≡ map.Refused r → (mapped p (base / 4096) used v pa s f).pool ≡ p
+  pub unmap_keeps : (r : Refusal) → (unmapped p (base / 4096) v).result ≡ Err r → (unmapped p (base / 4096) v).pool ≡ p
+  pub update_keeps : (n : Option ℕ) (f : Option MMUFlags) (r : Refusal) → (updated p (base / 4096) v n f).result ≡ Err r → (updated p (base / 4096) v n f).pool ≡ p
+  pub map_keeps : (s : PageSize) (pa f : ℕ) (r : Refusal) → (mapped p (base / 4096) used v pa s f).result ≡ Err r → (mapped p (base / 4096) used v pa s f).pool ≡ p
 
 pub record EffectsHold : Type 0 where
   pub holds : (p : List ℕ) (base used v : ℕ) → Good p base used → Effects p base used v

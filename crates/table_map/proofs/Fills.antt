@@ -1,4 +1,5 @@
 -- The laws of filling: what one table more does to the pool's words.
+use Rattle.std.specs.Prelude.{Err, Ok}
 use Prim.Native.Nat.{ℕ, zero, suc, ◌+◌, ◌-◌, ◌*◌, ◌/◌, ◌≤◌, ◌<◌}
 use mathlib.Core.Path.{◌≡◌}
 use mathlib.Core.List.{List}
@@ -17,7 +18,6 @@ use Rattle.refusal.specs.declared.Refusal.TheVariants.{AlreadyMapped, NoFrames}
 use Rattle.walk.specs.Walk.{found}
 use Rattle.walk.specs.declared.Walk.TheVariants.{Open}
 use Rattle.table_map.specs.Map.{Room, grown, under, filled, leaf_for, mapped}
-use Rattle.table_map.specs.declared.MapResult.TheVariants.{Mapped, Refused}
 
 pub fill_none : (n : ℕ) (p : List ℕ) (b u v : ℕ) (o : OpenEntry) (w : ℕ) → n ≡ 0 → put_word p o.frame o.place w ≡ filled n p b u v o w
 unfolding filled
@@ -44,13 +44,13 @@ room_under len base u v o r h = record {
 
 -- what a map is, by what its tests show of the unused entry that the walk found
 module _ (p : List ℕ) (b used v : ℕ) (s : PageSize) (pa f : ℕ) (o : OpenEntry) (q : found p b v ≡ Open o) where
-  pub table_there : o.level < level_of s → mapped p b used v pa s f ≡ record { result = Refused AlreadyMapped; pool = p }
+  pub table_there : o.level < level_of s → mapped p b used v pa s f ≡ record { result = Err AlreadyMapped; pool = p }
   table_there h = rw (q, lt-ltb o.level (level_of s) h)
 
   module _ (h : level_of s ≤ o.level) where
-    pub short : length p / 512 - used < o.level - level_of s → mapped p b used v pa s f ≡ record { result = Refused NoFrames; pool = p }
+    pub short : length p / 512 - used < o.level - level_of s → mapped p b used v pa s f ≡ record { result = Err NoFrames; pool = p }
     short l = rw (q, le-ltb o.level (level_of s) h, lt-ltb (length p / 512 - used) (o.level - level_of s) l)
 
     pub done : o.level - level_of s ≤ length p / 512 - used
-        → mapped p b used v pa s f ≡ record { result = Mapped (used + (o.level - level_of s)); pool = filled (o.level - level_of s) p b used v o (leaf_for s pa f) }
+        → mapped p b used v pa s f ≡ record { result = Ok (used + (o.level - level_of s)); pool = filled (o.level - level_of s) p b used v o (leaf_for s pa f) }
     done l = rw (q, le-ltb o.level (level_of s) h, le-ltb (length p / 512 - used) (o.level - level_of s) l)

@@ -6,7 +6,7 @@
 --     | 0 |                     | --|----> | frame u |----> | frame u+1 |
 --     +---+                     +---+      +---------+      +-----------+
 --                                          zeros but one    zeros but the leaf
-use Rattle.std.specs.Prelude.{ℕ, zero, suc, ◌+◌, ◌-◌, ◌*◌, ◌/◌, ◌%◌, ◌^◌, ◌≤◌, ◌<◌, ◌≡◌, List, ltb, length}
+use Rattle.std.specs.Prelude.{ℕ, zero, suc, ◌+◌, ◌-◌, ◌*◌, ◌/◌, ◌%◌, ◌^◌, ◌≤◌, ◌<◌, ◌≡◌, List, ltb, length, Err, Ok, Result}
 use Rattle.paging.specs.Choice.{pick}
 use Rattle.paging.specs.Level.{index}
 use Rattle.common.specs.Page.{level_of, size_of, is_huge}
@@ -18,8 +18,7 @@ use Rattle.walk.specs.Walk.{found}
 use Rattle.walk.specs.declared.Walk.{Walk}
 use Rattle.walk.specs.declared.Walk.TheVariants.{Leaf, Open}
 use Rattle.walk.specs.declared.OpenEntry.{OpenEntry}
-use Rattle.table_map.specs.declared.MapResult.{MapResult}
-use Rattle.table_map.specs.declared.MapResult.TheVariants.{Mapped, Refused}
+use Rattle.refusal.specs.declared.Refusal.{Refusal}
 
 -- an entry that stands in a pool of len words, whose frames all have addresses
 pub record Room (len base : ℕ) (o : OpenEntry) : Type 0 where
@@ -43,7 +42,7 @@ filled zero p b u v o w = put_word p o.frame o.place w
 filled (suc n) p b u v o w = filled n (grown p b u o) b (u + 1) v (under u v o) w
 
 pub record Mapping : Type 0 where
-  pub result : MapResult
+  pub result : Result ℕ Refusal
   pub pool : List ℕ
 
 -- "A single map aligns the physical address down to its page size."
@@ -53,9 +52,9 @@ leaf_for s pa f = leaf_by (is_huge s) (addr_of (pa - pa % size_of s)) f 0
 -- an unused entry o over a page of level t: 7 where a table stands at t, 8 where fewer frames are free than the levels between
 abbrev pub map_under : List ℕ → ℕ → ℕ → ℕ → ℕ → ℕ → OpenEntry → Mapping
 map_under p b used v t w o =
-    pick (ltb o.level t) (record { result = Refused AlreadyMapped; pool = p })
-    (pick (ltb (length p / 512 - used) (o.level - t)) (record { result = Refused NoFrames; pool = p })
-    (record { result = Mapped (used + (o.level - t)); pool = filled (o.level - t) p b used v o w }))
+    pick (ltb o.level t) (record { result = Err AlreadyMapped; pool = p })
+    (pick (ltb (length p / 512 - used) (o.level - t)) (record { result = Err NoFrames; pool = p })
+    (record { result = Ok (used + (o.level - t)); pool = filled (o.level - t) p b used v o w }))
 
 abbrev pub by_open : {A : Type 0} → Walk → A → (OpenEntry → A) → A
 by_open (Leaf e) a f = a
@@ -63,4 +62,4 @@ by_open (Open o) a f = f o
 
 -- 7: "a used entry, or a larger leaf over the page"
 abbrev pub mapped : List ℕ → ℕ → ℕ → ℕ → ℕ → PageSize → ℕ → Mapping
-mapped p b used v pa s f = by_open (found p b v) (record { result = Refused AlreadyMapped; pool = p }) (map_under p b used v (level_of s) (leaf_for s pa f))
+mapped p b used v pa s f = by_open (found p b v) (record { result = Err AlreadyMapped; pool = p }) (map_under p b used v (level_of s) (leaf_for s pa f))

@@ -13,13 +13,6 @@ use refusal::Refusal;
 use walk::{OpenEntry, Walk};
 use x86_64::vm::X86PTE;
 
-#[derive(Clone, Copy)]
-pub enum MapResult {
-    // The frames in use afterwards.
-    Mapped(usize),
-    Refused(Refusal),
-}
-
 // The level at which a leaf of the size stands.
 pub fn level_of(size: PageSize) -> usize
     ensures { result ≡ level_of size }
@@ -43,12 +36,10 @@ fn create_table(
     requires below { (0 < spot.level) × (next * 512 + 512 ≤ length pool.old) }
     ensures { (pool.new ≡ grown pool.old (base / 4096) next spot) × (result ≡ under next vaddr spot) }
 {
-    let frame = spot.frame;
-    let place = spot.place;
     let level = spot.level - 1;
     pool::zero_frame(pool, next);
     let entry = X86PTE::UNUSED.set_table(base + 4096 * (next as u64));
-    pool::set_entry(pool, frame, place, entry.0);
+    pool::set_entry(pool, spot.frame, spot.place, entry.0);
     OpenEntry {
         level,
         frame: next,
@@ -70,17 +61,15 @@ fn fill(
     requires reached { (target ≤ spot.level) × ((next + (spot.level - target)) * 512 ≤ length pool.old) }
     ensures { pool.new ≡ filled (spot.level - target) pool.old (base / 4096) next vaddr spot word }
 {
-    let level = spot.level;
-    if level <= target {
-        let frame = spot.frame;
-        let place = spot.place;
-        pool::set_entry(pool, frame, place, word);
+    if spot.level <= target {
+        pool::set_entry(pool, spot.frame, spot.place, word);
         return;
     }
     let below = create_table(pool, base, next, vaddr, spot);
     fill(pool, base, next + 1, vaddr, below, target, word);
 }
 
+// The frames in use afterwards.
 pub fn map(
     pool: &mut [u64],
     base: u64,
@@ -89,21 +78,20 @@ pub fn map(
     paddr: PhysAddr,
     size: PageSize,
     flags: MMUFlags,
-) -> MapResult
+) -> Result<usize, Refusal>
     requires { Good pool.old base used }
     ensures { record { result = result; pool = pool.new } ≡ mapped pool.old (base / 4096) used vaddr paddr size flags.0 }
 {
     let Walk::Open(spot) = walk::get_entry(pool, base, used, vaddr) else {
-        return MapResult::Refused(Refusal::AlreadyMapped);
+        return Err(Refusal::AlreadyMapped);
     };
-    let level = spot.level;
     let target = level_of(size);
-    if level < target {
-        return MapResult::Refused(Refusal::AlreadyMapped);
+    if spot.level < target {
+        return Err(Refusal::AlreadyMapped);
     }
-    let need = level - target;
+    let need = spot.level - target;
     if pool.len() / 512 - used < need {
-        return MapResult::Refused(Refusal::NoFrames);
+        return Err(Refusal::NoFrames);
     }
     fill(
         pool,
@@ -114,5 +102,5 @@ pub fn map(
         target,
         X86PTE::leaf(paddr, flags, size).0,
     );
-    MapResult::Mapped(used + need)
+    Ok(used + need)
 }

@@ -1,4 +1,5 @@
 -- The count is right: on the table as it stands it answers what mapping the pages one after the other answers.
+use Rattle.std.specs.Prelude.{Err, Ok}
 use Prim.Native.Nat.{ℕ, zero, suc, ◌+◌, ◌-◌, ◌*◌, ◌/◌, ◌%◌, ◌^◌, ◌≤◌, ◌<◌, min}
 use mathlib.Core.Path.{◌≡◌, refl, sym, ap, ◌∙◌, subst}
 use mathlib.Core.Logic.{⊎_elim}
@@ -24,7 +25,6 @@ use Rattle.walk.specs.declared.LeafEntry.{LeafEntry}
 use Rattle.walk.specs.declared.OpenEntry.{OpenEntry}
 use Rattle.walk.proofs.Found.{over, unused}
 use Rattle.table_map.specs.Map.{grown, under, filled, leaf_for, mapped, Mapping}
-use Rattle.table_map.specs.declared.MapResult.TheVariants.{Mapped, Refused}
 use Rattle.table_map.proofs.Fills.{grown_length, table_there, short, done}
 use Rattle.table_laws.specs.Effects.{shows_in}
 use Rattle.walk.proofs.Sizes.{size_level, size_bytes}
@@ -145,12 +145,12 @@ module _ (p : List ℕ) (base used : ℕ) (G : Good p base used) (v0 e : ℕ) (W
 
     module _ (o : OpenEntry) (q : found p' (base / 4096) v ≡ Open o) (above : t ≤ o.level) (room : o.level - t ≤ length p' / 512 - used') where
       is_done : mapped p' (base / 4096) used' v pa (size_at t) f ≡ record {
-        result = Mapped (used' + (o.level - t));
+        result = Ok (used' + (o.level - t));
         pool = filled (o.level - t) p' (base / 4096) used' v o (leaf_for (size_at t) pa f);
       }
       is_done =
           done p' (base / 4096) used' v (size_at t) pa f o q (omega (arith, level)) (omega (arith, level))
-          ∙ ap (λ (l : ℕ). record { result = Mapped (used' + (o.level - l)); pool = filled (o.level - l) p' (base / 4096) used' v o (leaf_for (size_at t) pa f) }) level
+          ∙ ap (λ (l : ℕ). record { result = Ok (used' + (o.level - l)); pool = filled (o.level - l) p' (base / 4096) used' v o (leaf_for (size_at t) pa f) }) level
 
       next_state : State (mapped p' (base / 4096) used' v pa (size_at t) f).pool (used' + (o.level - t)) (v + span t)
       next_state =
@@ -180,8 +180,8 @@ module _ (p : List ℕ) (base used : ℕ) (G : Good p base used) (v0 e : ℕ) (W
 
     -- what the page answers, mapped after those before it and counted on the table as it stands
     data Answers (c : ℕ) : Type 0 where
-      fails : (r : Refusal) → (mapped p' (base / 4096) used' v pa (size_at t) f).result ≡ Refused r → count_page p (base / 4096) used' c v t ≡ Refused r → Answers c
-      goes : (u : ℕ) → (mapped p' (base / 4096) used' v pa (size_at t) f).result ≡ Mapped u → count_page p (base / 4096) used' c v t ≡ Mapped u
+      fails : (r : Refusal) → (mapped p' (base / 4096) used' v pa (size_at t) f).result ≡ Err r → count_page p (base / 4096) used' c v t ≡ Err r → Answers c
+      goes : (u : ℕ) → (mapped p' (base / 4096) used' v pa (size_at t) f).result ≡ Ok u → count_page p (base / 4096) used' c v t ≡ Ok u
           → State (mapped p' (base / 4096) used' v pa (size_at t) f).pool u (v + span t) → Answers c
 
     answers : (c : ℕ) → 0 < n → t ≤ c → Parted v v c → Answers c
@@ -216,7 +216,7 @@ module _ (p : List ℕ) (base used : ℕ) (G : Good p base used) (v0 e : ℕ) (W
                 let u : used' + (s.0.level - t) ≡ used' + (min o.level c - t) = ap (λ (l : ℕ). used' + (l - t)) s.2 in
                 let a : t ≤ s.0.level = omega (arith, s.2) in
                 let r : s.0.level - t ≤ length p' / 512 - used' = omega (arith, s.2, frames) in
-                goes (used' + (s.0.level - t)) (ap (λ (m : Mapping). m.result) (is_done s.0 s.1 a r)) (page_done_lem p (base / 4096) used' c v t o q h g ∙ ap Mapped (sym u)) (next_state s.0 s.1 a r)
+                goes (used' + (s.0.level - t)) (ap (λ (m : Mapping). m.result) (is_done s.0 s.1 a r)) (page_done_lem p (base / 4096) used' c v t o q h g ∙ ap Ok (sym u)) (next_state s.0 s.1 a r)
 
   -- the count answers what the pages do
   module _ (top f : ℕ) (two : top ≤ 2) where

@@ -1,4 +1,5 @@
 -- What an accepted range comes to, page after page, and how a refused one ends.
+use Rattle.std.specs.Prelude.{Err, Ok, Result}
 use Prim.Native.Nat.{ℕ, zero, suc, ◌+◌, ◌-◌, ◌*◌, ◌/◌, ◌%◌, ◌^◌, ◌≤◌, ◌<◌}
 use mathlib.Core.Path.{◌≡◌, refl, sym, ap, ◌∙◌, subst}
 use mathlib.Core.Logic.{◌⊎◌, inl, inr, ⊎_elim}
@@ -17,8 +18,6 @@ use Rattle.refusal.specs.declared.Refusal.{Refusal}
 use Rattle.refusal.specs.declared.Refusal.TheVariants.{AlreadyMapped, NoFrames}
 use Rattle.walk.specs.Walk.{size_at}
 use Rattle.table_map.specs.Map.{leaf_for, mapped, Mapping}
-use Rattle.table_map.specs.declared.MapResult.{MapResult}
-use Rattle.table_map.specs.declared.MapResult.TheVariants.{Mapped, Refused}
 use Rattle.table_laws.specs.Effects.{translates_in, Adds}
 use Rattle.walk.proofs.Sizes.{size_level, size_bytes}
 use Rattle.table_laws.proofs.Effects.{effects}
@@ -55,7 +54,7 @@ module _ (base top f : ℕ) (two : top ≤ 2) where
   }
 
   -- a page, and the rest of the range
-  first_page : (p p'' : List ℕ) (used u used' v pa n t : ℕ) → Good p base used → Range v n pa → Fits top v pa n t → (mapped p (base / 4096) used v pa (size_at t) f).result ≡ Mapped u
+  first_page : (p p'' : List ℕ) (used u used' v pa n t : ℕ) → Good p base used → Range v n pa → Fits top v pa n t → (mapped p (base / 4096) used v pa (size_at t) f).result ≡ Ok u
       → MapsRange (mapped p (base / 4096) used v pa (size_at t) f).pool p'' base u used' (v + span t) (n - span t) (pa + span t) f → MapsRange p p'' base used used' v n pa f
   unfolding translates
   first_page p p'' used u used' v pa n t G R F e M = record {
@@ -102,19 +101,19 @@ module _ (base top f : ℕ) (two : top ≤ 2) where
       later x k = let s = span_page t in omega arith
 
   abbrev Maps : ℕ → Type 0
-  Maps k = (p : List ℕ) (used v pa n used' : ℕ) → Good p base used → Range v n pa → n ≤ k * 4096 → (pages k p (base / 4096) used v pa n top f).result ≡ Mapped used'
+  Maps k = (p : List ℕ) (used v pa n used' : ℕ) → Good p base used → Range v n pa → n ≤ k * 4096 → (pages k p (base / 4096) used v pa n top f).result ≡ Ok used'
       → MapsRange p (pages k p (base / 4096) used v pa n top f).pool base used used' v n pa f
 
-  stops : (k : ℕ) (p : List ℕ) (used v pa n used' : ℕ) → Good p base used → n ≡ 0 → (pages k p (base / 4096) used v pa n top f).result ≡ Mapped used'
+  stops : (k : ℕ) (p : List ℕ) (used v pa n used' : ℕ) → Good p base used → n ≡ 0 → (pages k p (base / 4096) used v pa n top f).result ≡ Ok used'
       → MapsRange p (pages k p (base / 4096) used v pa n top f).pool base used used' v n pa f
   stops k p used v pa n used' G z e =
       let q = pages_end p (base / 4096) used v pa n top f k z in
-      let y : Mapped used ≡ Mapped used' = sym (ap (λ (m : Mapping). m.result) q) ∙ e in
+      let y : Ok used ≡ Ok used' = sym (ap (λ (m : Mapping). m.result) q) ∙ e in
       let w : used ≡ used' = cc in
       rw (q, ← w) (nothing_left p used v n pa G z)
 
   goes_on : (k : ℕ) → Maps k → (p : List ℕ) (used v pa n used' t : ℕ) → t ≡ page_level top v pa n → Good p base used → Range v n pa → 0 < n → n ≤ suc k * 4096
-      → (pages (suc k) p (base / 4096) used v pa n top f).result ≡ Mapped used' → MapsRange p (pages (suc k) p (base / 4096) used v pa n top f).pool base used used' v n pa f
+      → (pages (suc k) p (base / 4096) used v pa n top f).result ≡ Ok used' → MapsRange p (pages (suc k) p (base / 4096) used v pa n top f).pool base used used' v n pa f
   goes_on k ih p used v pa n used' t et G R h g e = go (mapped p (base / 4096) used v pa (size_at t) f).result refl
     where
       some : n ≡ 0 → ⊥
@@ -123,9 +122,9 @@ module _ (base top f : ℕ) (two : top ≤ 2) where
       F : Fits top v pa n t
       F = rw et (page_fits top v pa n R.start (omega (arith, R.size)))
 
-      go : (r : MapResult) → (mapped p (base / 4096) used v pa (size_at t) f).result ≡ r → MapsRange p (pages (suc k) p (base / 4096) used v pa n top f).pool base used used' v n pa f
-      go (Refused r) q = not_both (sym q ∙ sym (ap (λ (m : Mapping). m.result) (pages_fail p (base / 4096) used v pa n top f k t some et r q)) ∙ e)
-      go (Mapped u) q =
+      go : (r : Result ℕ Refusal) → (mapped p (base / 4096) used v pa (size_at t) f).result ≡ r → MapsRange p (pages (suc k) p (base / 4096) used v pa n top f).pool base used used' v n pa f
+      go (Err r) q = not_both (sym q ∙ sym (ap (λ (m : Mapping). m.result) (pages_fail p (base / 4096) used v pa n top f k t some et r q)) ∙ e)
+      go (Ok u) q =
           let s = span_page t in
           let w = pages_next p (base / 4096) used v pa n top f k t some et u q in
           let room : pa + size_of (size_at t) ≤ 2 ^ 52 = omega (arith, size_bytes t (omega (arith, F.low)), F.room, R.physical) in
@@ -143,17 +142,17 @@ module _ (base top f : ℕ) (two : top ≤ 2) where
 -- a range is refused as one of its pages is
 module _ (p : List ℕ) (b top : ℕ) where
   abbrev Refuses : ℕ → Type 0
-  Refuses k = (used c v pa n : ℕ) (r : Refusal) → counted k p b used c v pa n top ≡ Refused r → (r ≡ AlreadyMapped) ⊎ (r ≡ NoFrames)
+  Refuses k = (used c v pa n : ℕ) (r : Refusal) → counted k p b used c v pa n top ≡ Err r → (r ≡ AlreadyMapped) ⊎ (r ≡ NoFrames)
 
-  refuses_on : (k : ℕ) → Refuses k → (used c v pa n t : ℕ) (r : Refusal) → t ≡ page_level top v pa n → (n ≡ 0 → ⊥) → counted (suc k) p b used c v pa n top ≡ Refused r → (r ≡ AlreadyMapped) ⊎ (r ≡ NoFrames)
+  refuses_on : (k : ℕ) → Refuses k → (used c v pa n t : ℕ) (r : Refusal) → t ≡ page_level top v pa n → (n ≡ 0 → ⊥) → counted (suc k) p b used c v pa n top ≡ Err r → (r ≡ AlreadyMapped) ⊎ (r ≡ NoFrames)
   refuses_on k ih used c v pa n t r et some e = go (count_page p b used c v t) refl
     where
-      go : (x : MapResult) → count_page p b used c v t ≡ x → (r ≡ AlreadyMapped) ⊎ (r ≡ NoFrames)
-      go (Refused y) q =
-          let z : Refused y ≡ Refused r = sym (counted_fail p b used c v pa n top k t some et y q) ∙ e in
+      go : (x : Result ℕ Refusal) → count_page p b used c v t ≡ x → (r ≡ AlreadyMapped) ⊎ (r ≡ NoFrames)
+      go (Err y) q =
+          let z : Err y ≡ Err r = sym (counted_fail p b used c v pa n top k t some et y q) ∙ e in
           let w : y ≡ r = cc in
-          page_refuses p b used c v t r (q ∙ ap Refused w)
-      go (Mapped u) q = ih u (begins (v + span t)) (v + span t) (pa + span t) (n - span t) r (sym (counted_next p b used c v pa n top k t some et u q) ∙ e)
+          page_refuses p b used c v t r (q ∙ ap Err w)
+      go (Ok u) q = ih u (begins (v + span t)) (v + span t) (pa + span t) (n - span t) r (sym (counted_next p b used c v pa n top k t some et u q) ∙ e)
 
   range_refuses : (k : ℕ) → Refuses k
   unfolding counted
@@ -168,18 +167,18 @@ module _ (p : List ℕ) (m : Mapping) where
   same_result : (or_nothing p m).result ≡ m.result
   same_result = go m.result refl
     where
-      go : (r : MapResult) → m.result ≡ r → (or_nothing p m).result ≡ m.result
-      go (Mapped u) e = rw e
-      go (Refused r) e = rw e
+      go : (r : Result ℕ Refusal) → m.result ≡ r → (or_nothing p m).result ≡ m.result
+      go (Ok u) e = rw e
+      go (Err r) e = rw e
 
-  mapped_pool : (u : ℕ) → m.result ≡ Mapped u → (or_nothing p m).pool ≡ m.pool
+  mapped_pool : (u : ℕ) → m.result ≡ Ok u → (or_nothing p m).pool ≡ m.pool
   mapped_pool u e = rw e
 
-  refused_pool : (r : Refusal) → m.result ≡ Refused r → (or_nothing p m).pool ≡ p
+  refused_pool : (r : Refusal) → m.result ≡ Err r → (or_nothing p m).pool ≡ p
   refused_pool r e = rw e
 
 -- a refused call changes no word, whatever the pool is
-pub cont_keeps : (p : List ℕ) (b used v n pa f : ℕ) (r : Refusal) → (map_cont p b used v n pa f).result ≡ Refused r → (map_cont p b used v n pa f).pool ≡ p
+pub cont_keeps : (p : List ℕ) (b used v n pa f : ℕ) (r : Refusal) → (map_cont p b used v n pa f).result ≡ Err r → (map_cont p b used v n pa f).pool ≡ p
 cont_keeps p b used v n pa f r e =
     let m : Mapping = pages (n / 4096) p b used v pa n (top_level f) f in
     refused_pool p m r (sym (same_result p m) ∙ e)
@@ -208,9 +207,9 @@ ranges p base used v n pa f G R = record {
         ∙ ap (λ (x : Mapping). x.result) (few_pages base (top_level f) f (top_low f) p used v pa n G R)
         ∙ by_count (length p + 1) p base used v n pa (top_level f) f G R (top_low f)
 
-    whole : n ≡ 0 → or_nothing p m ≡ record { result = Mapped used; pool = p }
+    whole : n ≡ 0 → or_nothing p m ≡ record { result = Ok used; pool = p }
     whole z =
-        let q : m ≡ record { result = Mapped used; pool = p } = pages_end p (base / 4096) used v pa n (top_level f) f (n / 4096) z in
+        let q : m ≡ record { result = Ok used; pool = p } = pages_end p (base / 4096) used v pa n (top_level f) f (n / 4096) z in
         ap (or_nothing p) q
 
 pub ranges_hold : RangesHold

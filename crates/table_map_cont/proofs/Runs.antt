@@ -1,4 +1,5 @@
 -- The two loops: what holds at each turn of the count and of the writing.
+use Rattle.std.specs.Prelude.{Err, Ok, Result}
 use Prim.Native.Nat.{ℕ, zero, suc, ◌+◌, ◌-◌, ◌*◌, ◌/◌, ◌%◌, ◌≤◌, ◌<◌}
 use mathlib.Core.Path.{◌≡◌, refl, sym, ap, ◌∙◌}
 use mathlib.Core.Bool.{Bool, true, false}
@@ -14,8 +15,6 @@ use Rattle.form.specs.Form.{Good}
 use Rattle.refusal.specs.declared.Refusal.{Refusal}
 use Rattle.walk.specs.Walk.{size_at}
 use Rattle.table_map.specs.Map.{mapped, Mapping}
-use Rattle.table_map.specs.declared.MapResult.{MapResult}
-use Rattle.table_map.specs.declared.MapResult.TheVariants.{Mapped, Refused}
 use Rattle.walk.proofs.Sizes.{size_bytes}
 use Rattle.table_laws.proofs.Effects.{effects}
 use Rattle.table_map_cont.specs.MapCont.{Range, largest, top_level, page_level, pages, or_nothing}
@@ -33,7 +32,7 @@ pub fits_now : (top v pa n t : ℕ) → Range v n pa → 0 < n → t ≡ page_le
 fits_now top v pa n t R h e = rw e (page_fits top v pa n R.start (omega (arith, R.size)))
 
 -- all is what the whole count answers
-pub record Counting (p : List ℕ) (b top : ℕ) (all : MapResult) (taken made v pa n : ℕ) : Type 0 where
+pub record Counting (p : List ℕ) (b top : ℕ) (all : Result ℕ Refusal) (taken made v pa n : ℕ) : Type 0 where
   pub fuel : ℕ
   pub enough : n ≤ fuel * 4096
   pub same : counted fuel p b taken made v pa n top ≡ all
@@ -41,8 +40,8 @@ pub record Counting (p : List ℕ) (b top : ℕ) (all : MapResult) (taken made v
   pub few : taken ≤ length p / 512
   pub high : (l : ℕ) → l ≤ 2 → v % span l ≡ 0 → l ≤ made
 
-module _ (p : List ℕ) (b top : ℕ) (all : MapResult) (taken made v pa n : ℕ) (C : Counting p b top all taken made v pa n) where
-  pub count_end : n ≡ 0 → Mapped taken ≡ all
+module _ (p : List ℕ) (b top : ℕ) (all : Result ℕ Refusal) (taken made v pa n : ℕ) (C : Counting p b top all taken made v pa n) where
+  pub count_end : n ≡ 0 → Ok taken ≡ all
   count_end e = sym (counted_end p b taken made v pa n top C.fuel e) ∙ C.same
 
   module _ (h : 0 < n) (t : ℕ) (et : t ≡ page_level top v pa n) where
@@ -58,10 +57,10 @@ module _ (p : List ℕ) (b top : ℕ) (all : MapResult) (taken made v pa n : ℕ
     F : Fits top v pa n t
     F = fits_now top v pa n t C.range h et
 
-    pub count_fail : (r : Refusal) → count_page p b taken made v t ≡ Refused r → Refused r ≡ all
+    pub count_fail : (r : Refusal) → count_page p b taken made v t ≡ Err r → Err r ≡ all
     count_fail r e = sym (counted_fail p b taken made v pa n top j.0 t some et r e) ∙ whole
 
-    pub count_next : (u made' : ℕ) → count_page p b taken made v t ≡ Mapped u → made' ≡ begins (v + span t)
+    pub count_next : (u made' : ℕ) → count_page p b taken made v t ≡ Ok u → made' ≡ begins (v + span t)
         → Counting p b top all u made' (v + span t) (pa + span t) (n - span t)
     count_next u made' e em =
         let s = span_page t in
@@ -86,7 +85,7 @@ pub record Writing (base top f : ℕ) (all : Mapping) (p : List ℕ) (taken v pa
   pub good : Good p base taken
 
 module _ (base top f : ℕ) (all : Mapping) (p : List ℕ) (taken v pa n : ℕ) (C : Writing base top f all p taken v pa n) where
-  pub write_end : n ≡ 0 → record { result = Mapped taken; pool = p } ≡ all
+  pub write_end : n ≡ 0 → record { result = Ok taken; pool = p } ≡ all
   write_end e = sym (pages_end p (base / 4096) taken v pa n top f C.fuel e) ∙ C.same
 
   module _ (two : top ≤ 2) (h : 0 < n) (t : ℕ) (et : t ≡ page_level top v pa n) (m : Mapping) (em : m ≡ mapped p (base / 4096) taken v pa (size_at t) f) where
@@ -102,13 +101,13 @@ module _ (base top f : ℕ) (all : Mapping) (p : List ℕ) (taken v pa n : ℕ) 
     K : Fits top v pa n t
     K = fits_now top v pa n t C.range h et
 
-    result : {r : MapResult} → m.result ≡ r → (mapped p (base / 4096) taken v pa (size_at t) f).result ≡ r
+    result : {r : Result ℕ Refusal} → m.result ≡ r → (mapped p (base / 4096) taken v pa (size_at t) f).result ≡ r
     result e = sym (ap (λ (x : Mapping). x.result) em) ∙ e
 
-    pub write_fail : (r : Refusal) → m.result ≡ Refused r → m ≡ all
+    pub write_fail : (r : Refusal) → m.result ≡ Err r → m ≡ all
     write_fail r e = em ∙ sym (pages_fail p (base / 4096) taken v pa n top f i.0 t bytes_left et r (result e)) ∙ rest
 
-    pub write_next : (u : ℕ) → m.result ≡ Mapped u → Writing base top f all m.pool u (v + span t) (pa + span t) (n - span t)
+    pub write_next : (u : ℕ) → m.result ≡ Ok u → Writing base top f all m.pool u (v + span t) (pa + span t) (n - span t)
     write_next u e =
         let s = span_page t in
         let b : size_of (size_at t) ≡ span t = size_bytes t (omega (arith, K.low)) in
@@ -132,8 +131,8 @@ top_low f = go (eqb (has HUGE_PAGE f) 1)
     go false = omega arith
 
 -- the call, by what its pages answer
-pub cont_refused : (p : List ℕ) (m : Mapping) (r : Refusal) → m.result ≡ Refused r → record { result = Refused r; pool = p } ≡ or_nothing p m
+pub cont_refused : (p : List ℕ) (m : Mapping) (r : Refusal) → m.result ≡ Err r → record { result = Err r; pool = p } ≡ or_nothing p m
 cont_refused p m r e = rw e
 
-pub cont_mapped : (p : List ℕ) (m : Mapping) (u : ℕ) → m.result ≡ Mapped u → m ≡ or_nothing p m
+pub cont_mapped : (p : List ℕ) (m : Mapping) (u : ℕ) → m.result ≡ Ok u → m ≡ or_nothing p m
 cont_mapped p m u e = rw e

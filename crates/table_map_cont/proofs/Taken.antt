@@ -1,5 +1,6 @@
 -- Each page that is mapped takes an entry that was unused: no more can be mapped than the pool has words, so that no more are tried than one above that,
 -- however long the range is.
+use Rattle.std.specs.Prelude.{Err, Ok, Result}
 use Prim.Native.Nat.{ℕ, zero, suc, ◌+◌, ◌-◌, ◌*◌, ◌/◌, ◌%◌, ◌≤◌, ◌<◌}
 use mathlib.Core.Path.{◌≡◌, refl, sym, ap, ◌∙◌, subst}
 use mathlib.Core.Bool.{Bool, true, false}
@@ -25,8 +26,6 @@ use Rattle.walk.specs.declared.Walk.TheVariants.{Leaf, Open}
 use Rattle.walk.proofs.Sizes.{size_bytes}
 use Rattle.walk.proofs.Found.{unused, open_in}
 use Rattle.table_map.specs.Map.{leaf_for, mapped, Mapping}
-use Rattle.table_map.specs.declared.MapResult.{MapResult}
-use Rattle.table_map.specs.declared.MapResult.TheVariants.{Mapped, Refused}
 use Rattle.table_map.proofs.Fills.{table_there, short, done}
 use Rattle.table_laws.specs.Frames.{next_word}
 use Rattle.table_laws.proofs.Effects.{effects}
@@ -36,6 +35,7 @@ use Rattle.table_map_cont.proofs.Heights.{Fits, page_fits}
 use Rattle.table_map_cont.proofs.Pages.{span_page, range_on}
 use Rattle.table_map_cont.proofs.Steps.{not_both, pages_end, pages_fail, pages_next}
 use Rattle.table_map_cont.proofs.Counted.{filled_long}
+use Rattle.refusal.specs.declared.Refusal.{Refusal}
 
 -- a page that was mapped: where its tables went
 module _ (p : List ℕ) (base used v : ℕ) (G : Good p base used) (s : PageSize) (pa f : ℕ) where
@@ -55,7 +55,7 @@ module _ (p : List ℕ) (base used v : ℕ) (G : Good p base used) (s : PageSize
     pub is : word (mapped p b used v pa s f).pool i k ≡ 0 → ⊥
     pub long : length (mapped p b used v pa s f).pool ≡ length p
 
-  pub solid : (u : ℕ) → (mapped p b used v pa s f).result ≡ Mapped u → Solid u
+  pub solid : (u : ℕ) → (mapped p b used v pa s f).result ≡ Ok u → Solid u
   solid u e = go (found p b v) refl
     where
       go : (r : Walk) → found p b v ≡ r → Solid u
@@ -81,7 +81,7 @@ module _ (p : List ℕ) (base used v : ℕ) (G : Good p base used) (s : PageSize
               let n : ℕ = o.level - level_of s in
               let U = unused p b used G.formed v o q in
               let T = frames_taken.holds n p b used v (leaf_for s pa f) o U.placed.taken (open_in p base used v G o q).1 (omega arith) (omega (arith, G.sized.there)) in
-              let z : Mapped (used + n) ≡ Mapped u = sym (ap (λ (m : Mapping). m.result) D) ∙ e in
+              let z : Ok (used + n) ≡ Ok u = sym (ap (λ (m : Mapping). m.result) D) ∙ e in
               let y : used + n ≡ u = cc in
               record {
                 grows = omega arith;
@@ -177,7 +177,7 @@ used_most p base used G = omega (arith, sum_most (used * 512) (λ j. in_use_lem 
 module _ (base top f : ℕ) (two : top ≤ 2) where
   -- one page of either count of pages
   step : (k m : ℕ) (p : List ℕ) (used v pa n : ℕ) → Good p base used → Range v n pa → 0 < n
-      → ((u : ℕ) → (mapped p (base / 4096) used v pa (size_at (page_level top v pa n)) f).result ≡ Mapped u
+      → ((u : ℕ) → (mapped p (base / 4096) used v pa (size_at (page_level top v pa n)) f).result ≡ Ok u
       → pages k (mapped p (base / 4096) used v pa (size_at (page_level top v pa n)) f).pool (base / 4096) u (v + span (page_level top v pa n)) (pa + span (page_level top v pa n)) (n - span (page_level top v pa n)) top f
       ≡ pages m (mapped p (base / 4096) used v pa (size_at (page_level top v pa n)) f).pool (base / 4096) u (v + span (page_level top v pa n)) (pa + span (page_level top v pa n)) (n - span (page_level top v pa n)) top f)
       → pages (suc k) p (base / 4096) used v pa n top f ≡ pages (suc m) p (base / 4096) used v pa n top f
@@ -186,17 +186,17 @@ module _ (base top f : ℕ) (two : top ≤ 2) where
       some : n ≡ 0 → ⊥
       some z = omega arith
 
-      go : (r : MapResult) → (mapped p (base / 4096) used v pa (size_at (page_level top v pa n)) f).result ≡ r → pages (suc k) p (base / 4096) used v pa n top f ≡ pages (suc m) p (base / 4096) used v pa n top f
-      go (Refused r) q =
+      go : (r : Result ℕ Refusal) → (mapped p (base / 4096) used v pa (size_at (page_level top v pa n)) f).result ≡ r → pages (suc k) p (base / 4096) used v pa n top f ≡ pages (suc m) p (base / 4096) used v pa n top f
+      go (Err r) q =
           pages_fail p (base / 4096) used v pa n top f k (page_level top v pa n) some refl r q ∙ sym (pages_fail p (base / 4096) used v pa n top f m (page_level top v pa n) some refl r q)
-      go (Mapped u) q =
+      go (Ok u) q =
           pages_next p (base / 4096) used v pa n top f k (page_level top v pa n) some refl u q
           ∙ ih u q
           ∙ sym (pages_next p (base / 4096) used v pa n top f m (page_level top v pa n) some refl u q)
 
   -- the pool after a page, and the rest of the range
   module _ (p : List ℕ) (used v pa n : ℕ) (G : Good p base used) (R : Range v n pa) (h : 0 < n) (u : ℕ)
-      (q : (mapped p (base / 4096) used v pa (size_at (page_level top v pa n)) f).result ≡ Mapped u) where
+      (q : (mapped p (base / 4096) used v pa (size_at (page_level top v pa n)) f).result ≡ Ok u) where
     F : Fits top v pa n (page_level top v pa n)
     F = page_fits top v pa n R.start (omega (arith, R.size))
 

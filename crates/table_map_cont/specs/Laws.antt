@@ -1,5 +1,5 @@
 -- What `map_cont` on a well-formed table means for every address: theorems about the definition of specs/MapCont.
-use Rattle.std.specs.Prelude.{ℕ, ◌+◌, ◌-◌, ◌/◌, ◌%◌, ◌≤◌, ◌<◌, ◌≡◌, ◌⊎◌, List, length}
+use Rattle.std.specs.Prelude.{ℕ, ◌+◌, ◌-◌, ◌/◌, ◌%◌, ◌≤◌, ◌<◌, ◌≡◌, ◌⊎◌, List, length, Err, Ok}
 use Rattle.paging.specs.Level.{Canonical}
 use Rattle.paging.specs.Table.{to}
 use Rattle.x86_64.specs.Entry.{granted}
@@ -7,7 +7,6 @@ use Rattle.pool.specs.Pool.{word}
 use Rattle.form.specs.Form.{Good}
 use Rattle.refusal.specs.declared.Refusal.{Refusal}
 use Rattle.refusal.specs.declared.Refusal.TheVariants.{AlreadyMapped, NoFrames}
-use Rattle.table_map.specs.declared.MapResult.TheVariants.{Mapped, Refused}
 use Rattle.table_laws.specs.Effects.{translates_in}
 use Rattle.table_map_cont.specs.MapCont.{Range, top_level, map_cont}
 use Rattle.table_map_cont.specs.Count.{counted}
@@ -27,17 +26,17 @@ pub record MapsRange (p p' : List ℕ) (base used used' v n pa f : ℕ) : Type 0
 -- What is proved of every good pool and every range that is taken: `RangesHold`, below.
 pub record Ranges (p : List ℕ) (base used v n pa f : ℕ) : Type 0 where
   -- an accepted call maps its range, and that alone
-  pub maps : (used' : ℕ) → (map_cont p (base / 4096) used v n pa f).result ≡ Mapped used' → MapsRange p (map_cont p (base / 4096) used v n pa f).pool base used used' v n pa f
+  pub maps : (used' : ℕ) → (map_cont p (base / 4096) used v n pa f).result ≡ Ok used' → MapsRange p (map_cont p (base / 4096) used v n pa f).pool base used used' v n pa f
   -- a refused one changes no word: "unlike the Rust nothing stays mapped"
-  pub keeps : (r : Refusal) → (map_cont p (base / 4096) used v n pa f).result ≡ Refused r → (map_cont p (base / 4096) used v n pa f).pool ≡ p
+  pub keeps : (r : Refusal) → (map_cont p (base / 4096) used v n pa f).result ≡ Err r → (map_cont p (base / 4096) used v n pa f).pool ≡ p
   -- it is refused as a single map is: 7 or 8
-  pub refusals : (r : Refusal) → (map_cont p (base / 4096) used v n pa f).result ≡ Refused r → (r ≡ AlreadyMapped) ⊎ (r ≡ NoFrames)
+  pub refusals : (r : Refusal) → (map_cont p (base / 4096) used v n pa f).result ≡ Err r → (r ≡ AlreadyMapped) ⊎ (r ≡ NoFrames)
   -- the answer, found without a write
   pub by_count : (map_cont p (base / 4096) used v n pa f).result ≡ counted (n / 4096) p (base / 4096) used 3 v pa n (top_level f)
   -- and with no more pages tried than the pool has words, and one, however long the range is
   pub few : counted (n / 4096) p (base / 4096) used 3 v pa n (top_level f) ≡ counted (length p + 1) p (base / 4096) used 3 v pa n (top_level f)
   -- an empty range is mapped at once
-  pub empty : n ≡ 0 → map_cont p (base / 4096) used v n pa f ≡ record { result = Mapped used; pool = p }
+  pub empty : n ≡ 0 → map_cont p (base / 4096) used v n pa f ≡ record { result = Ok used; pool = p }
 
 pub record RangesHold : Type 0 where
   pub holds : (p : List ℕ) (base used v n pa f : ℕ) → Good p base used → Range v n pa → Ranges p base used v n pa f

@@ -9,7 +9,6 @@ ghost use Rattle.table_map_cont.specs.Count.{begins, count_page, counted};
 
 use common::defs::{MMUFlags, PhysAddr, VirtAddr};
 use refusal::Refusal;
-use table_map::MapResult;
 use walk::Walk;
 
 // The level of the largest page that is made: 1 GiB.
@@ -19,10 +18,11 @@ const LARGEST: usize = 2;
 fn top_level(flags: MMUFlags) -> usize
     ensures { result ≡ top_level flags.0 }
 {
-    if flags.0 / MMUFlags::HUGE_PAGE.0 % 2 == 1 {
-        return LARGEST;
+    if flags.contains(MMUFlags::HUGE_PAGE) {
+        LARGEST
+    } else {
+        0
     }
-    0
 }
 
 // Whether a page of the level fits what remains and both addresses.
@@ -31,13 +31,7 @@ fn is_fit(vaddr: VirtAddr, paddr: PhysAddr, remains: u64, level: usize) -> bool
     ensures { result ≡ fits vaddr paddr remains level }
 {
     let page_size = walk::size_at(level);
-    if remains < page_size.size() {
-        return false;
-    }
-    if !page_size.is_aligned(vaddr) {
-        return false;
-    }
-    page_size.is_aligned(paddr)
+    page_size.size() <= remains && page_size.is_aligned(vaddr) && page_size.is_aligned(paddr)
 }
 
 // The level of the next page.
@@ -45,12 +39,10 @@ fn page_level(top: usize, vaddr: VirtAddr, paddr: PhysAddr, remains: u64) -> usi
     requires { top ≤ 2 }
     ensures { result ≡ page_level top vaddr paddr remains }
 {
-    let mut level = top;
-    while 0 < level {
+    for level in (1..=top).rev() {
         if is_fit(vaddr, paddr, remains, level) {
             return level;
         }
-        level -= 1;
     }
     0
 }
@@ -91,26 +83,25 @@ fn count_page(
     made: usize,
     vaddr: VirtAddr,
     target: usize,
-) -> MapResult
+) -> Result<usize, Refusal>
     requires good { Good pool.now base used }
     requires counted { (taken ≤ length pool.now / 512) × (target ≤ made) }
     ensures { result ≡ count_page pool.now (base / 4096) taken made vaddr target }
 {
     let Walk::Open(spot) = walk::get_entry(pool, base, used, vaddr) else {
-        return MapResult::Refused(Refusal::AlreadyMapped);
+        return Err(Refusal::AlreadyMapped);
     };
-    let level = spot.level;
-    if level < target {
-        return MapResult::Refused(Refusal::AlreadyMapped);
+    if spot.level < target {
+        return Err(Refusal::AlreadyMapped);
     }
-    let need = tables_below(level, made, target);
+    let need = tables_below(spot.level, made, target);
     if pool.len() / 512 - taken < need {
-        return MapResult::Refused(Refusal::NoFrames);
+        return Err(Refusal::NoFrames);
     }
-    MapResult::Mapped(taken + need)
+    Ok(taken + need)
 }
 
-// What the pages answer one after the other, without a write.
+// What the pages answer one after the other, without a write: the way of `map_pages`, which would need a closure for what it does with each page.
 fn count(
     pool: &[u64],
     base: u64,
@@ -119,7 +110,7 @@ fn count(
     size: u64,
     to: PhysAddr,
     top: usize,
-) -> MapResult
+) -> Result<usize, Refusal>
     requires good { Good pool.now base used }
     requires range { Range from size to × (top ≤ 2) }
     ensures { result ≡ counted (size / 4096) pool.now (base / 4096) used 3 from to size top }
@@ -129,20 +120,17 @@ fn count(
     let mut vaddr = from;
     let mut paddr = to;
     let mut remains = size;
+    // a page is as long as fits: no range has these addresses
     while 0 < remains {
         let level = page_level(top, vaddr, paddr, remains);
-        let answer = count_page(pool, base, used, taken, made, vaddr, level);
-        let MapResult::Mapped(next) = answer else {
-            return answer;
-        };
+        taken = count_page(pool, base, used, taken, made, vaddr, level)?;
         let step = walk::size_at(level).size();
-        taken = next;
         vaddr += step;
         paddr += step;
         remains -= step;
         made = begins_at(vaddr);
     }
-    MapResult::Mapped(taken)
+    Ok(taken)
 }
 
 // The pages one after the other, up to the first that fails.
@@ -155,7 +143,7 @@ fn map_pages(
     to: PhysAddr,
     flags: MMUFlags,
     top: usize,
-) -> MapResult
+) -> Result<usize, Refusal>
     requires good { Good pool.old base used }
     requires range { Range from size to × (top ≤ 2) }
     ensures { record { result = result; pool = pool.new } ≡ pages (size / 4096) pool.old (base / 4096) used from to size top flags.0 }
@@ -164,20 +152,17 @@ fn map_pages(
     let mut vaddr = from;
     let mut paddr = to;
     let mut remains = size;
+    // a page is as long as fits: no range has these addresses
     while 0 < remains {
         let level = page_level(top, vaddr, paddr, remains);
         let page_size = walk::size_at(level);
-        let answer = table_map::map(pool, base, taken, vaddr, paddr, page_size, flags);
-        let MapResult::Mapped(next) = answer else {
-            return answer;
-        };
+        taken = table_map::map(pool, base, taken, vaddr, paddr, page_size, flags)?;
         let step = page_size.size();
-        taken = next;
         vaddr += step;
         paddr += step;
         remains -= step;
     }
-    MapResult::Mapped(taken)
+    Ok(taken)
 }
 
 // Maps `size` bytes from `vaddr` on to those from `paddr` on.
@@ -189,15 +174,12 @@ pub fn map_cont(
     size: u64,
     paddr: PhysAddr,
     flags: MMUFlags,
-) -> MapResult
+) -> Result<usize, Refusal>
     requires good { Good pool.old base used }
     requires range { Range vaddr size paddr }
     ensures { record { result = result; pool = pool.new } ≡ map_cont pool.old (base / 4096) used vaddr size paddr flags.0 }
 {
     let top = top_level(flags);
-    let answer = count(pool, base, used, vaddr, size, paddr, top);
-    let MapResult::Mapped(_) = answer else {
-        return answer;
-    };
+    count(pool, base, used, vaddr, size, paddr, top)?;
     map_pages(pool, base, used, vaddr, size, paddr, flags, top)
 }

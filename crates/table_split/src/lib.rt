@@ -38,10 +38,8 @@ fn put_pieces(table: &mut [u64], leaf: X86PTE, size: PageSize)
     let paddr = leaf.addr();
     let flags = leaf.flags();
     let step = size.size();
-    let mut i = 0;
-    while i < table.len() {
+    for i in 0..table.len() {
         table[i] = X86PTE::leaf(paddr + (i as u64) * step, flags, size).0;
-        i += 1;
     }
 }
 
@@ -51,16 +49,13 @@ fn split(pool: &mut [u64], base: u64, next: usize, leaf: LeafEntry)
     requires room { (next * 512 + 512 ≤ length pool.old) × (base % 4096 ≡ 0) × (base + 4096 * (length pool.old / 512) ≤ 2 ^ 52) }
     ensures { pool.new ≡ split_leaf pool.old (base / 4096) next leaf }
 {
-    let frame = leaf.frame;
-    let place = leaf.place;
-    let whole = leaf.size;
-    let size = piece_size(whole);
-    let entry = X86PTE(pool::entry_at(pool, frame, place));
+    let size = piece_size(leaf.size);
+    let entry = X86PTE(pool::entry_at(pool, leaf.frame, leaf.place));
     let a = next * 512;
     let e = a + 512;
     put_pieces(&mut pool[a..e], entry, size);
     let table = X86PTE::UNUSED.set_table(base + 4096 * (next as u64));
-    pool::set_entry(pool, frame, place, table.0);
+    pool::set_entry(pool, leaf.frame, leaf.place, table.0);
 }
 
 // Splits the leaf over an address, and the piece over it, while the address falls inside; `depth` is how often a leaf can be split. Answers the
@@ -77,15 +72,14 @@ fn split_at(pool: &mut [u64], base: u64, used: usize, vaddr: VirtAddr, depth: us
     let Walk::Leaf(leaf) = walk::get_entry(pool, base, used, vaddr) else {
         return used;
     };
-    let size = leaf.size;
-    if size.is_aligned(vaddr) {
+    if leaf.size.is_aligned(vaddr) {
         return used;
     }
     split(pool, base, used, leaf);
     split_at(pool, base, used + 1, vaddr, depth - 1)
 }
 
-// The level of the leaf over an address; 0 also where there is none.
+// The level of the leaf over an address; 0 also where there is none, since neither that nor a leaf of 4 KiB is split.
 fn leaf_level(pool: &[u64], base: u64, used: usize, vaddr: VirtAddr) -> usize
     requires { Good pool.now base used }
     ensures { result ≡ leaf_over pool.now (base / 4096) vaddr }
@@ -93,8 +87,7 @@ fn leaf_level(pool: &[u64], base: u64, used: usize, vaddr: VirtAddr) -> usize
     let Walk::Leaf(leaf) = walk::get_entry(pool, base, used, vaddr) else {
         return 0;
     };
-    let size = leaf.size;
-    table_map::level_of(size)
+    table_map::level_of(leaf.size)
 }
 
 // How many splits it takes until a leaf of the level begins at the address.

@@ -1,4 +1,5 @@
 -- Demand 3 of the README, from the cut of the format (paging/specs/Cut) and the steps that the code takes.
+use Rattle.std.specs.Prelude.{Err, Ok, Result}
 use Prim.Native.Nat.{ℕ, suc, ◌+◌, ◌-◌, ◌*◌, ◌/◌, ◌%◌, ◌<◌, ◌≤◌}
 use mathlib.Core.Path.{◌≡◌, refl, sym, ap, ◌∙◌, subst}
 use mathlib.Core.Bool.{Bool, true, false}
@@ -35,8 +36,6 @@ use Rattle.walk.specs.declared.Walk.{Walk}
 use Rattle.walk.specs.declared.Walk.TheVariants.{Leaf, Open}
 use Rattle.walk.proofs.Found as walks
 use Rattle.table.specs.Table.{queried}
-use Rattle.table.specs.declared.QueryResult.{QueryResult}
-use Rattle.table.specs.declared.QueryResult.TheVariants as query
 use Rattle.table_laws.specs.Effects.{shows_in}
 use Rattle.table_laws.specs.Processor.{InMemory, Processor}
 use Rattle.table_laws.proofs.Processor.{processor}
@@ -46,20 +45,26 @@ use Rattle.table_split.proofs.Once.{placed_view, leaf_over_lem}
 use Rattle.table_split.specs.Split.{needed, split_ends}
 use Rattle.table_unmap_cont.specs.UnmapCont.{cut_from, ContUnmapping}
 use Rattle.table_unmap_cont.specs.Demand.{frames_for, answered, Byte, byte, none, byte_of, CutOut, Demand, one, DemandHolds}
-use Rattle.table_unmap_cont.specs.declared.UnmapContResult.TheVariants.{Unmapped}
 use Rattle.table_unmap_cont.proofs.Calls.{cont_empty, cont_short, cont_done}
 use Rattle.table_unmap_cont.proofs.Clears.{Cleared, clears, cleared_good}
 use Rattle.table_unmap_cont.proofs.Bound.{enough}
 use Rattle.table_split.proofs.Ends.{t₁, D₁, D₂}
 use Rattle.table_unmap_cont.proofs.Four.{needs_four}
 
+-- what query answers of a page
+abbrev Page : Type 0
+Page = ℕ × MMUFlags × PageSize
+
+abbrev page : ℕ → ℕ → ℕ → Page
+page v l w = (addr_of w + v % span l, record { 0 = flags_of w }, size_at l)
+
 -- query's answer, from what the table shows
-abbrev as_query : ℕ → View → QueryResult
-as_query v (view l w) = by_kind (x86.kind l w) (query.Refused NotMapped) (query.Page (addr_of w + v % span l) (record { 0 = flags_of w }) (size_at l)) (λ m. query.Refused NotMapped)
+abbrev as_query : ℕ → View → Result Page Refusal
+as_query v (view l w) = by_kind (x86.kind l w) (Err NotMapped) (Ok (page v l w)) (λ m. Err NotMapped)
 
 as_by : (v l w : ℕ) (k : Kind) → x86.kind l w ≡ k
-    → as_query v (view l w) ≡ by_kind k (query.Refused NotMapped) (query.Page (addr_of w + v % span l) (record { 0 = flags_of w }) (size_at l)) (λ m. query.Refused NotMapped)
-as_by v l w k e = ap (λ (t : Kind). by_kind t (query.Refused NotMapped) (query.Page (addr_of w + v % span l) (record { 0 = flags_of w }) (size_at l)) (λ m. query.Refused NotMapped)) e
+    → as_query v (view l w) ≡ by_kind k (Err NotMapped) (Ok (page v l w)) (λ m. Err NotMapped)
+as_by v l w k e = ap (λ (t : Kind). by_kind t (Err NotMapped) (Ok (page v l w)) (λ m. Err NotMapped)) e
 
 module _ (p : List ℕ) (base used : ℕ) (G : Good p base used) (v : ℕ) where
   query_shown : queried p (base / 4096) v ≡ as_query v (shows_in p base v)
@@ -70,15 +75,15 @@ module _ (p : List ℕ) (base used : ℕ) (G : Good p base used) (v : ℕ) where
           let O = walks.over p (base / 4096) used G.formed v e q in
           let w : ℕ = word p e.frame e.place in
           let s = placed_view p (base / 4096) used G.formed v O.l e.frame e.place O.placed in
-          let r : queried p (base / 4096) v ≡ query.Page (addr_of w + v % size_of e.size) (record { 0 = flags_of w }) e.size = rw q in
+          let r : queried p (base / 4096) v ≡ Ok (addr_of w + v % size_of e.size, (record { 0 = flags_of w }), e.size) = rw q in
           r
-          ∙ ap (λ (z : PageSize). query.Page (addr_of w + v % size_of z) (record { 0 = flags_of w }) z) O.size
-          ∙ ap (λ (n : ℕ). query.Page (addr_of w + v % n) (record { 0 = flags_of w }) (size_at O.l)) (size_bytes O.l O.low)
+          ∙ ap (λ (z : PageSize). Ok (addr_of w + v % size_of z, (record { 0 = flags_of w }), z)) O.size
+          ∙ ap (λ (n : ℕ). Ok (addr_of w + v % n, (record { 0 = flags_of w }), size_at O.l)) (size_bytes O.l O.low)
           ∙ sym (ap (as_query v) s ∙ as_by v O.l w leaf O.kind)
       go (Open o) q =
           let U = walks.unused p (base / 4096) used G.formed v o q in
           let s = placed_view p (base / 4096) used G.formed v o.level o.frame o.place U.placed ∙ ap (view o.level) U.blank in
-          let r : queried p (base / 4096) v ≡ query.Refused NotMapped = rw q in
+          let r : queried p (base / 4096) v ≡ Err NotMapped = rw q in
           r ∙ sym (ap (as_query v) s ∙ as_by v o.level 0 nothing (lawful.blank o.level))
 
 -- its frame and rights are the translation
@@ -86,18 +91,18 @@ answered_as : (v : ℕ) (s : View) → answered (as_query v s) ≡ translated x8
 unfolding x86
 answered_as v (view l w) = go (x86.kind l w)
   where
-    go : (k : Kind) → answered (by_kind k (query.Refused NotMapped) (query.Page (addr_of w + v % span l) (record { 0 = flags_of w }) (size_at l)) (λ m. query.Refused NotMapped))
+    go : (k : Kind) → answered (by_kind k (Err NotMapped) (Ok (page v l w)) (λ m. Err NotMapped))
         ≡ by_kind k nowhere (to (addr_of w + v % span l) (flags_of w)) (λ m. nowhere)
     go nothing = refl
     go leaf = refl
     go (table m) = refl
 
-nowhere_as : (v : ℕ) (s : View) → translated x86 v s ≡ nowhere → as_query v s ≡ query.Refused NotMapped
+nowhere_as : (v : ℕ) (s : View) → translated x86 v s ≡ nowhere → as_query v s ≡ Err NotMapped
 unfolding x86
 nowhere_as v (view l w) e = go (x86.kind l w) e
   where
     go : (k : Kind) → by_kind k nowhere (to (addr_of w + v % span l) (flags_of w)) (λ m. nowhere) ≡ nowhere
-        → by_kind k (query.Refused NotMapped) (query.Page (addr_of w + v % span l) (record { 0 = flags_of w }) (size_at l)) (λ m. query.Refused NotMapped) ≡ query.Refused NotMapped
+        → ◌≡◌ {A = Result Page Refusal} (by_kind k (Err NotMapped) (Ok (page v l w)) (λ m. Err NotMapped)) (Err NotMapped)
     go nothing q = refl
     go leaf q = let z : ◌≡◌ {A = ℕ} 0 1 = cc in absurd (omega arith)
     go (table m) q = refl
@@ -123,8 +128,8 @@ module _ (p : List ℕ) (base used : ℕ) (G : Good p base used) (mem : ℕ → 
   byte_is : byte_of (intel mem base v) ≡ byte_by (answered (queried p (base / 4096) v))
   byte_is = go (queried p (base / 4096) v) refl
     where
-      go : (r : QueryResult) → queried p (base / 4096) v ≡ r → byte_of (intel mem base v) ≡ byte_by (answered r)
-      go (query.Page a f s) q = ⊎_elim
+      go : (r : Result Page Refusal) → queried p (base / 4096) v ≡ r → byte_of (intel mem base v) ≡ byte_by (answered r)
+      go (Ok (a, f, s)) q = ⊎_elim
           (λ (h : has READ f.0 ≡ 1).
           let d = P.reads v a f s q h in
           ap byte_of d.1 ∙ ap (byte a) (same_rights f.0 d.0 d.2) ∙ sym (rw (eq-eqb (has READ f.0) 1 h)))
@@ -133,15 +138,15 @@ module _ (p : List ℕ) (base used : ℕ) (G : Good p base used) (mem : ℕ → 
         where
           zero_bit : (has READ f.0 ≡ 1 → ⊥) → has READ f.0 ≡ 0
           zero_bit n = ⊎_elim (λ h. omega arith) (λ h. absurd (n (omega arith))) (below? (has READ f.0) 1)
-      go (query.Refused r) q = ap byte_of (P.lacks v (q ∙ refused_is r q))
+      go (Err r) q = ap byte_of (P.lacks v (q ∙ refused_is r q))
         where
-          refused_is : (r : Refusal) → queried p (base / 4096) v ≡ query.Refused r → query.Refused r ≡ query.Refused NotMapped
+          refused_is : (r : Refusal) → queried p (base / 4096) v ≡ Err r → ◌≡◌ {A = Result Page Refusal} (Err r) (Err NotMapped)
           refused_is r q = sym q ∙ by (found p (base / 4096) v) refl
             where
-              by : (x : Walk) → found p (base / 4096) v ≡ x → queried p (base / 4096) v ≡ query.Refused NotMapped
+              by : (x : Walk) → found p (base / 4096) v ≡ x → queried p (base / 4096) v ≡ Err NotMapped
               by (Open o) e = rw e
               by (Leaf l) e =
-                  let z : query.Page (addr_of (word p l.frame l.place) + v % size_of l.size) (record { 0 = flags_of (word p l.frame l.place) }) l.size ≡ query.Refused r = rw e at q in
+                  let z : Ok ((addr_of (word p l.frame l.place) + v % size_of l.size), (record { 0 = flags_of (word p l.frame l.place) }), l.size) ≡ Err r = rw e at q in
                   let y : ◌≡◌ {A = ℕ} 0 1 = cc in
                   absurd (omega arith)
 
@@ -153,7 +158,7 @@ x86_cuts root = cuts.holds x86 root lawful (omega arith) (lit< tt)
 -- what is left of a pool, from what is left of its memory
 module _ (p p' : List ℕ) (base used used' a e : ℕ) (G : Good p base used) (G' : Good p' base used')
     (C : Cutting x86 (mem_of p (base / 4096)) (mem_of p' (base / 4096)) (Taken (base / 4096) used') (base / 4096) a e used used') where
-  inside : (v : ℕ) → a ≤ v → v < e → queried p' (base / 4096) v ≡ query.Refused NotMapped
+  inside : (v : ℕ) → a ≤ v → v < e → queried p' (base / 4096) v ≡ Err NotMapped
   unfolding translates
   inside v h l = query_shown p' base used' G' v ∙ nowhere_as v (shows_in p' base v) (C.inside v h l)
 
@@ -171,23 +176,24 @@ module _ (p p' : List ℕ) (base used used' a e : ℕ) (G : Good p base used) (G
       (t, query_shown p' base used' G' v ∙ ap (as_query v) (t ∙ sym s) ∙ sym (query_shown p base used G v))
 
   -- the level of the leaf over an address that query answers
-  over_query : (q : List ℕ) (u : ℕ) (H : Good q base u) (v x : ℕ) (f : MMUFlags) (s : PageSize) → queried q (base / 4096) v ≡ query.Page x f s
+  over_query : (q : List ℕ) (u : ℕ) (H : Good q base u) (v x : ℕ) (f : MMUFlags) (s : PageSize) → queried q (base / 4096) v ≡ Ok (x, f, s)
       → over x86 (mem_of q (base / 4096)) (base / 4096) v ≡ level_of s
   over_query q u H v x f s e = go (found q (base / 4096) v) refl
     where
       go : (w : Walk) → found q (base / 4096) v ≡ w → over x86 (mem_of q (base / 4096)) (base / 4096) v ≡ level_of s
       go (Open o) r =
-          let none : query.Refused NotMapped ≡ query.Page x f s = rw r at e in
+          let none : Err NotMapped ≡ Ok (x, f, s) = rw r at e in
           let z : ◌≡◌ {A = ℕ} 0 1 = cc in
           absurd (omega arith)
       go (Leaf l) r =
-          let same : query.Page (addr_of (word q l.frame l.place) + v % size_of l.size) (record { 0 = flags_of (word q l.frame l.place) }) l.size ≡ query.Page x f s = rw r at e in
-          let es : l.size ≡ s = cc in
+          let same : Ok ((addr_of (word q l.frame l.place) + v % size_of l.size), (record { 0 = flags_of (word q l.frame l.place) }), l.size) ≡ Ok (x, f, s) = rw r at e in
+          let pair : ◌≡◌ {A = Page} (addr_of (word q l.frame l.place) + v % size_of l.size, record { 0 = flags_of (word q l.frame l.place) }, l.size) (x, f, s) = cc in
+          let es : l.size ≡ s = ap (λ (n : Page). n.2) pair in
           let lv : leaf_over q (base / 4096) v ≡ level_of l.size = rw r in
           sym (leaf_over_lem q (base / 4096) u H.formed v) ∙ lv ∙ ap level_of es
 
   largest : (v x x' : ℕ) (f f' : MMUFlags) (s s' : PageSize) → Canonical 4 v → (v < a) ⊎ (e ≤ v)
-      → queried p (base / 4096) v ≡ query.Page x f s → queried p' (base / 4096) v ≡ query.Page x' f' s' → level_of s' < level_of s
+      → queried p (base / 4096) v ≡ Ok (x, f, s) → queried p' (base / 4096) v ≡ Ok (x', f', s') → level_of s' < level_of s
       → partly (suc (level_of s')) (v / span (suc (level_of s'))) a e ≡ true
   unfolding x86
   largest v x x' f f' s s' c o q q' h =
@@ -231,7 +237,7 @@ module _ (p : List ℕ) (base used v n : ℕ) (G : Good p base used) (pv : v % 4
       refused = λ l. absurd (omega (arith, no_frames));
       carried = λ l.
           let d = cont_empty p b used v n z in (
-            sym (ap (λ (o : ContUnmapping). o.result) d) ∙ ap Unmapped (sym no_frames),
+            sym (ap (λ (o : ContUnmapping). o.result) d) ∙ ap Ok (sym no_frames),
             subst (λ (o : ContUnmapping). CutOut p o.pool base used (used + frames_for p base v (v + n)) v (v + n)) d
                 (subst (λ (u : ℕ). CutOut p p base used u v (v + n)) (omega (arith, no_frames)) (cut_out p p base used used v (v + n) G G nothing_cut)),
           );
@@ -299,7 +305,7 @@ module _ (p : List ℕ) (base used v n : ℕ) (G : Good p base used) (pv : v % 4
       carried = λ l.
           let room : needed p b v (v + n) ≤ length p / 512 - used = omega (arith, counted) in
           let d = cont_done p b used v n some room in (
-            sym (ap (λ (o : ContUnmapping). o.result) d) ∙ ap Unmapped (sym counted),
+            sym (ap (λ (o : ContUnmapping). o.result) d) ∙ ap Ok (sym counted),
             subst (λ (o : ContUnmapping). CutOut p o.pool base used (used + frames_for p base v (v + n)) v (v + n)) d (left room),
           );
     }

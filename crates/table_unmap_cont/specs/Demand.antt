@@ -6,7 +6,7 @@
 --   more."
 --
 -- In this order: what a cut requires, what query answers, what is left, the demand, and the theorem.
-use Rattle.std.specs.Prelude.{ℕ, suc, ◌+◌, ◌-◌, ◌*◌, ◌/◌, ◌%◌, ◌<◌, ◌≤◌, ◌≡◌, Bool, true, false, ◌⊎◌, List, length}
+use Rattle.std.specs.Prelude.{ℕ, suc, ◌+◌, ◌-◌, ◌*◌, ◌/◌, ◌%◌, ◌<◌, ◌≤◌, ◌≡◌, Bool, true, false, ◌⊎◌, List, length, Err, Ok, Result}
 use Rattle.paging.specs.Choice.{pick}
 use Rattle.paging.specs.Level.{span, Canonical, Within}
 use Rattle.paging.specs.Table.{view, Translation, to, nowhere}
@@ -20,12 +20,10 @@ use Rattle.pool.specs.Pool.{mem_of}
 use Rattle.form.specs.Form.{Good}
 use Rattle.refusal.specs.declared.Refusal.TheVariants.{NotMapped, NoFrames}
 use Rattle.table.specs.Table.{queried}
-use Rattle.table.specs.declared.QueryResult.{QueryResult}
-use Rattle.table.specs.declared.QueryResult.TheVariants as query
 use Rattle.table_laws.specs.Effects.{shows_in}
 use Rattle.table_laws.specs.Processor.{InMemory}
 use Rattle.table_unmap_cont.specs.UnmapCont.{unmap_cont}
-use Rattle.table_unmap_cont.specs.declared.UnmapContResult.TheVariants.{Unmapped, Refused}
+use Rattle.refusal.specs.declared.Refusal.{Refusal}
 
 -- what cutting [a, e) out of the pool's table requires, the sum over its leaves; and what there is
 abbrev pub frames_for : List ℕ → ℕ → ℕ → ℕ → ℕ
@@ -35,9 +33,9 @@ abbrev pub free : List ℕ → ℕ → ℕ
 free p used = length p / 512 - used
 
 -- the frame and the rights that query answers; the page's size is the rest of its answer
-abbrev pub answered : QueryResult → Translation
-answered (query.Page a f s) = to a f.0
-answered (query.Refused r) = nowhere
+abbrev pub answered : Result (ℕ × MMUFlags × PageSize) Refusal → Translation
+answered (Ok (a, f, s)) = to a f.0
+answered (Err r) = nowhere
 
 -- the byte and the rights that the processor translates to
 pub data Byte : Type 0 where
@@ -55,13 +53,13 @@ pub record CutOut (p p' : List ℕ) (base used used' a e : ℕ) : Type 0 where
   -- "Every address outside keeps its frame and rights"
   pub outside : (v : ℕ) → Canonical 4 v → (v < a) ⊎ (e ≤ v) → answered (queried p' (base / 4096) v) ≡ answered (queried p (base / 4096) v)
   -- "no address inside has a frame any more"
-  pub inside : (v : ℕ) → a ≤ v → v < e → queried p' (base / 4096) v ≡ query.Refused NotMapped
+  pub inside : (v : ℕ) → a ≤ v → v < e → queried p' (base / 4096) v ≡ Err NotMapped
   -- no entry outside changes, nor query's answer with it, but those of partly cut leaves
   pub untouched : (v l w : ℕ) → Canonical 4 v → (v < a) ⊎ (e ≤ v) → shows_in p base v ≡ view l w → (w ≡ 0) ⊎ (partly l (v / span l) a e ≡ false)
       → (shows_in p' base v ≡ view l w) × (queried p' (base / 4096) v ≡ queried p (base / 4096) v)
   -- what is kept of one stands in the largest leaves that fit: any larger block would be partly cut
   pub largest : (v x x' : ℕ) (f f' : MMUFlags) (s s' : PageSize) → Canonical 4 v → (v < a) ⊎ (e ≤ v)
-      → queried p (base / 4096) v ≡ query.Page x f s → queried p' (base / 4096) v ≡ query.Page x' f' s' → level_of s' < level_of s
+      → queried p (base / 4096) v ≡ Ok (x, f, s) → queried p' (base / 4096) v ≡ Ok (x', f', s') → level_of s' < level_of s
       → partly (suc (level_of s')) (v / span (suc (level_of s'))) a e ≡ true
   -- the same by the manual, whatever else memory holds before and after
   pub manual_outside : (mem mem' : ℕ → ℕ) → InMemory p base used mem → InMemory p' base used' mem'
@@ -73,10 +71,10 @@ pub record Demand (p : List ℕ) (base used v n : ℕ) : Type 0 where
   -- "Never more than four"
   pub most : frames_for p base v (v + n) ≤ 4
   -- "refused for lack of frames exactly when fewer are free than it needs", and then nothing is changed
-  pub refused : free p used < frames_for p base v (v + n) → unmap_cont p (base / 4096) used v n ≡ record { result = Refused NoFrames; pool = p }
+  pub refused : free p used < frames_for p base v (v + n) → unmap_cont p (base / 4096) used v n ≡ record { result = Err NoFrames; pool = p }
   -- "takes exactly the frames its partly cut leaves require"
   pub carried : frames_for p base v (v + n) ≤ free p used
-      → ((unmap_cont p (base / 4096) used v n).result ≡ Unmapped (frames_for p base v (v + n)))
+      → ((unmap_cont p (base / 4096) used v n).result ≡ Ok (frames_for p base v (v + n)))
       × CutOut p (unmap_cont p (base / 4096) used v n).pool base used (used + frames_for p base v (v + n)) v (v + n)
 
 -- one where the test holds, else none

@@ -12,13 +12,6 @@ use common::defs::VirtAddr;
 use refusal::Refusal;
 use walk::Walk;
 
-#[derive(Clone, Copy)]
-pub enum UnmapContResult {
-    // The frames taken: so many more are in use afterwards.
-    Unmapped(usize),
-    Refused(Refusal),
-}
-
 // Empties the entry over an address, and answers what it spans.
 fn clear_entry(pool: &mut [u64], base: u64, used: usize, vaddr: VirtAddr) -> u64
     requires { Good pool.old base used }
@@ -27,16 +20,10 @@ fn clear_entry(pool: &mut [u64], base: u64, used: usize, vaddr: VirtAddr) -> u64
 {
     match walk::get_entry(pool, base, used, vaddr) {
         Walk::Leaf(leaf) => {
-            let frame = leaf.frame;
-            let place = leaf.place;
-            let size = leaf.size;
-            pool::set_entry(pool, frame, place, 0);
-            size.size()
+            pool::set_entry(pool, leaf.frame, leaf.place, 0);
+            leaf.size.size()
         }
-        Walk::Open(spot) => {
-            let level = spot.level;
-            walk::span_at(level)
-        }
+        Walk::Open(spot) => walk::span_at(spot.level),
     }
 }
 
@@ -47,6 +34,7 @@ fn clear(pool: &mut [u64], base: u64, used: usize, start: VirtAddr, end: VirtAdd
     ensures { pool.new ≡ cleared (used * 512) pool.old (base / 4096) start end }
 {
     let mut vaddr = start;
+    // a step is as long as the entry that it empties: no range has these addresses
     while vaddr < end {
         let span = clear_entry(pool, base, used, vaddr);
         let left = span - vaddr % span;
@@ -58,27 +46,28 @@ fn clear(pool: &mut [u64], base: u64, used: usize, start: VirtAddr, end: VirtAdd
     }
 }
 
-// Removes whatever is mapped in the `size` bytes from `vaddr` on; of a leaf that is cut the rest is kept.
+// Removes whatever is mapped in the `size` bytes from `vaddr` on; of a leaf that is cut the rest is kept. The answer is the number of frames taken: so
+// many more are in use afterwards.
 pub fn unmap_cont(
     pool: &mut [u64],
     base: u64,
     used: usize,
     vaddr: VirtAddr,
     size: u64,
-) -> UnmapContResult
+) -> Result<usize, Refusal>
     requires good { Good pool.old base used }
     requires aligned { (vaddr % 4096 ≡ 0) × (size % 4096 ≡ 0) × Within 4 vaddr (vaddr + size) }
     ensures { record { result = result; pool = pool.new } ≡ unmap_cont pool.old (base / 4096) used vaddr size }
 {
     if size == 0 {
-        return UnmapContResult::Unmapped(0);
+        return Ok(0);
     }
     let end = vaddr + size;
     let need = table_split::needed_frames(pool, base, used, vaddr, end);
     if pool.len() / 512 - used < need {
-        return UnmapContResult::Refused(Refusal::NoFrames);
+        return Err(Refusal::NoFrames);
     }
     let after = table_split::split_ends(pool, base, used, vaddr, end);
     clear(pool, base, after, vaddr, end);
-    UnmapContResult::Unmapped(need)
+    Ok(need)
 }

@@ -1,59 +1,107 @@
 // Input that comes in pieces, of any length, and is read line by line in constant memory.
 #![tactic(auto)]
 
-ghost use Rattle.std.specs.Prelude.{◌≤◌, ◌<◌, length};
+ghost use Rattle.std.specs.Prelude.{◌≤◌};
 
-// Where the line that goes on at `from` ends: at its newline, or with the input.
-pub fn line_end(input: &[u8], from: usize) -> usize
-    requires { from ≤ length input.now }
-    ensures { (from ≤ result) × (result ≤ length input.now) }
-{
-    let mut i = from;
-    while i < input.len() {
-        if input[i] == b'\n' {
-            return i;
+use std::io::{self, Read, Write};
+
+// How much is read at once.
+const BUFFER: usize = 65536;
+
+// More than the longest line that any program here can read.
+const LINE: usize = 192;
+
+// A program that answers each line of its input.
+pub trait Answers {
+    // Writes the answer to a line, or to one that was too long to keep.
+    fn answer<W: Write>(&mut self, line: Option<&[u8]>, out: &mut W) -> io::Result<()>;
+}
+
+// A line as far as it has come, in fixed memory. Of one that is too long nothing is kept.
+#[derive(Drop)]
+struct Line {
+    bytes: [u8; LINE],
+    len: usize,
+    is_too_long: bool,
+    ghost fits: { len ≤ 192 },
+}
+
+impl Line {
+    fn new() -> Line {
+        Line {
+            bytes: [0; LINE],
+            len: 0,
+            is_too_long: false,
         }
-        i += 1;
     }
-    i
+
+    fn push(&mut self, more: &[u8]) {
+        if LINE - self.len < more.len() {
+            self.is_too_long = true;
+            return;
+        }
+        let end = self.len + more.len();
+        self.bytes[self.len..end].copy_from_slice(more);
+        self.len = end;
+    }
+
+    fn is_begun(&self) -> bool {
+        self.is_too_long || self.len != 0
+    }
+
+    fn text(&self) -> Option<&[u8]> {
+        if self.is_too_long {
+            return None;
+        }
+        Some(&self.bytes[..self.len])
+    }
+
+    fn clear(&mut self) {
+        self.len = 0;
+        self.is_too_long = false;
+    }
 }
 
-// Where the next line begins, once the one that goes on at `from` ends at `to`.
-pub fn next_line(input: &[u8], from: usize, to: usize) -> usize
-    requires { (from < length input.now) × (from ≤ to) × (to ≤ length input.now) }
-    ensures { (from < result) × (result ≤ length input.now) }
-{
-    if to < input.len() {
-        return to + 1;
+// Answers each line that ends in `input`.
+fn take<W: Write, A: Answers>(
+    input: &[u8],
+    line: &mut Line,
+    answers: &mut A,
+    out: &mut W,
+) -> io::Result<()> {
+    for piece in input.split_inclusive(|b| *b == b'\n') {
+        match piece {
+            [text @ .., b'\n'] => {
+                line.push(text);
+                answers.answer(line.text(), out)?;
+                line.clear();
+            }
+            _ => line.push(piece),
+        }
     }
-    to
+    Ok(())
 }
 
-// A byte more of the line. One that does not fit is counted and not kept.
-fn put(line: &mut [u8], len: usize, b: u8) -> usize {
-    if len < line.len() {
-        line[len] = b;
-        return len + 1;
+// Answers each line of the input. A last line without an end is a line.
+pub fn answer_all<R: Read, W: Write, A: Answers>(
+    from: &mut R,
+    answers: &mut A,
+    out: &mut W,
+) -> io::Result<()> {
+    let mut input = [0u8; BUFFER];
+    let mut line = Line::new();
+    // a loop has to end, and nothing says that the input does: no run has so many turns
+    for _ in 0..u64::MAX {
+        let n = from.read(&mut input)?;
+        if n == 0 {
+            break;
+        }
+        take(&input[..n], &mut line, answers, out)?;
+        trace_output::flush(out)?;
     }
-    line.len() + 1
-}
-
-// So many bytes more of it. The answer is its length, or more than `line` holds.
-pub fn append(line: &mut [u8], len: usize, bytes: &[u8]) -> usize {
-    let mut now = len;
-    let mut i = 0;
-    while i < bytes.len() {
-        now = put(line, now, bytes[i]);
-        i += 1;
+    if line.is_begun() {
+        answers.answer(line.text(), out)?;
+        trace_output::flush(out)?;
     }
-    now
-}
-
-// How many turns are left after one. A loop has to end, and nothing says that the input does: one that reads counts down from more turns than any
-// run has.
-pub fn left(turns: u64, is_ended: bool) -> u64
-    requires { 0 < turns }
-    ensures { result < turns }
-{
-    if is_ended { 0 } else { turns - 1 }
+    Ok(())
 }

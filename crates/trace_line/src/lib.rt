@@ -1,461 +1,445 @@
-// A line of a trace: a name and its fields, parted by one space.
+// A line of a trace: a name and its fields, parted by one space. docs/REPLAY.md has them.
 #![tactic(auto)]
 
-ghost use Rattle.std.specs.Prelude.{◌≤◌, ◌<◌, length};
+ghost use Rattle.std.specs.Prelude.{◌≡◌, ◌≤◌, take};
+ghost use Rattle.trace_line.specs.Unanswered.{number_of_line};
 
-use common::defs::MMUFlags;
+use common::defs::{MMUFlags, PhysAddr, VirtAddr, VmarFlags};
 use common::vm::PageSize;
-use table::{NewAddr, NewFlags};
+use refusal::Refusal;
+use space::{Mapping, Region};
 
-pub const MOST_FRAMES: u64 = 64;
+// The longest line's.
+const MOST_FIELDS: usize = 10;
+
+const MOST_FRAMES: u64 = 64;
 
 #[derive(Clone, Copy)]
 pub enum Line {
-    // base, frames, used
-    New(u64, u64, u64),
-    // index, value
-    Word(u64, u64),
-    Dump,
-    Sum,
-    // address, size, physical address, flags
-    Map(u64, PageSize, u64, MMUFlags),
-    Unmap(u64),
-    Update(u64, NewAddr, NewFlags),
-    Query(u64),
-    // address, length, physical address, flags
-    MapCont(u64, u64, u64, MMUFlags),
-    // address, length
-    UnmapCont(u64, u64),
-    // a line of the space, whose fields `fields_of` reads
-    Space(What),
-    Unreadable,
-}
-
-// What a line does with the space.
-#[derive(Clone, Copy)]
-pub enum What {
-    Root,
-    Kernel,
-    Alloc,
-    MapExt,
-    MappingFlags,
-    VaddrFlags,
-    Check,
-    Unmap,
-    Protect,
-    Destroy,
-    Clear,
-    Region,
-    Mapping,
-    Reglist,
-    Maplist,
-    Counts,
-    Page,
-    Lend,
-    Space,
+    Pool(OnPool),
+    Space(OnSpace),
+    // these write the space
+    Records,
     Tree,
 }
 
-const MOST_FIELDS: usize = 10;
-
-// The fields of such a line: its numbers, and whether the second is a dash.
+// What a line does with the pool.
 #[derive(Clone, Copy)]
-pub struct Fields {
-    pub n: [u64; 10],
-    pub is_dash: bool,
-    pub is_bad: bool,
+pub enum OnPool {
+    New {
+        base: PhysAddr,
+        frames: usize,
+        used: usize,
+    },
+    Word {
+        index: u64,
+        value: u64,
+    },
+    Dump,
+    Sum,
+    Map {
+        vaddr: VirtAddr,
+        size: PageSize,
+        paddr: PhysAddr,
+        flags: MMUFlags,
+    },
+    Unmap(VirtAddr),
+    Update {
+        vaddr: VirtAddr,
+        paddr: Option<PhysAddr>,
+        flags: Option<MMUFlags>,
+    },
+    Query(VirtAddr),
+    MapCont {
+        vaddr: VirtAddr,
+        len: u64,
+        paddr: PhysAddr,
+        flags: MMUFlags,
+    },
+    UnmapCont {
+        vaddr: VirtAddr,
+        len: u64,
+    },
 }
 
+// What a line does with the space. A region goes by its id.
 #[derive(Clone, Copy)]
-enum Field {
-    Number(u64),
-    Dash,
-    Bad,
+pub enum OnSpace {
+    Root,
+    Kernel,
+    Alloc {
+        region: u64,
+        offset: Option<u64>,
+        len: u64,
+        flags: VmarFlags,
+        align: u64,
+    },
+    MapExt {
+        region: u64,
+        offset: Option<u64>,
+        vmo: u64,
+        vmo_len: u64,
+        vmo_offset: u64,
+        len: u64,
+        permissions: MMUFlags,
+        flags: MMUFlags,
+        overwrite: bool,
+        allow_faults: bool,
+    },
+    MappingFlags {
+        region: u64,
+        vaddr: VirtAddr,
+    },
+    VaddrFlags {
+        region: u64,
+        vaddr: VirtAddr,
+    },
+    Check {
+        region: u64,
+        vaddr: VirtAddr,
+        len: u64,
+        access: MMUFlags,
+    },
+    Unmap {
+        region: u64,
+        vaddr: VirtAddr,
+        len: u64,
+    },
+    Protect {
+        region: u64,
+        vaddr: VirtAddr,
+        len: u64,
+        flags: MMUFlags,
+    },
+    Destroy(u64),
+    Clear(u64),
+    // these set the port's records, right or wrong
+    Region {
+        slot: usize,
+        record: Region,
+    },
+    Mapping {
+        slot: usize,
+        record: Mapping,
+    },
+    Reglist {
+        place: usize,
+        slot: usize,
+    },
+    Maplist {
+        place: usize,
+        slot: usize,
+    },
+    Counts {
+        regions: usize,
+        mappings: usize,
+        nextid: u64,
+    },
+    Page {
+        index: usize,
+        flags: u8,
+    },
+    Lend(usize),
 }
 
-// The value of a digit; 16 of what is none.
-fn digit(b: u8) -> u64
-    ensures { result ≤ 16 }
-{
-    if b < b'0' {
-        return 16;
-    }
-    if b <= b'9' {
-        return (b - b'0') as u64;
-    }
-    if b < b'a' {
-        return 16;
-    }
-    if b <= b'f' {
-        return (b - b'a') as u64 + 10;
-    }
-    16
+// Why a line has no values.
+#[derive(Clone, Copy, Debug, PartialEq, Eq)]
+pub enum Unanswered {
+    Refused(Refusal),
+    Unreadable,
 }
 
-// One to sixteen digits, or a dash.
-fn value(text: &[u8]) -> Field {
-    if text.len() == 0 {
-        return Field::Bad;
-    }
-    if 16 < text.len() {
-        return Field::Bad;
-    }
-    if text[0] == b'-' {
-        if text.len() == 1 {
-            return Field::Dash;
+impl Unanswered {
+    pub fn number(self) -> u64
+        ensures { result ≡ number_of_line self }
+    {
+        match self {
+            Unanswered::Refused(why) => why.number(),
+            Unanswered::Unreadable => 16,
         }
-        return Field::Bad;
+    }
+}
+
+impl From<Refusal> for Unanswered {
+    fn from(why: Refusal) -> Self {
+        Unanswered::Refused(why)
+    }
+}
+
+// A name and its fields, in fixed memory; a dash is none.
+#[derive(Clone, Copy)]
+pub struct Words<'a> {
+    pub name: &'a [u8],
+    fields: [Option<u64>; MOST_FIELDS],
+    many: usize,
+    ghost fits: { many ≤ 10 },
+}
+
+impl<'a> Words<'a> {
+    pub fn of(line: &'a [u8]) -> Option<Words<'a>> {
+        let mut parts = line.split(|b| *b == b' ');
+        let name = parts.next()?;
+        let mut words = Words {
+            name,
+            fields: [None; MOST_FIELDS],
+            many: 0,
+        };
+        for part in parts {
+            words.push(field(part)?)?;
+        }
+        Some(words)
+    }
+
+    // None if there is no room.
+    fn push(&mut self, field: Option<u64>) -> Option<()> {
+        if self.many == MOST_FIELDS {
+            return None;
+        }
+        self.fields[self.many] = field;
+        self.many += 1;
+        Some(())
+    }
+
+    pub fn fields(&self) -> &[Option<u64>]
+        ensures { result.now ≡ take self.now.many self.now.fields }
+    {
+        &self.fields[..self.many]
+    }
+}
+
+fn digit(b: u8) -> Option<u64> {
+    match b {
+        b'0'..=b'9' => Some((b - b'0') as u64),
+        b'a'..=b'f' => Some((b - b'a') as u64 + 10),
+        _ => None,
+    }
+}
+
+fn number(text: &[u8]) -> Option<u64> {
+    if text.is_empty() || 16 < text.len() {
+        return None;
     }
     let mut n: u64 = 0;
-    let mut i = 0;
-    while i < text.len() {
-        let d = digit(text[i]);
-        if d == 16 {
-            return Field::Bad;
-        }
+    for b in text {
         // nothing is lost of sixteen digits
-        n = n % 0x1000_0000_0000_0000 * 16 + d;
-        i += 1;
+        n = n << 4 | digit(*b)?;
     }
-    Field::Number(n)
+    Some(n)
 }
 
-// Where field k begins: past k spaces, or at the end.
-fn start(line: &[u8], k: usize) -> usize
-    ensures { result ≤ length line.now }
-{
-    let mut left = k;
-    let mut i = 0;
-    while i < line.len() {
-        if left == 0 {
-            return i;
-        }
-        if line[i] == b' ' {
-            left -= 1;
-        }
-        i += 1;
-    }
-    i
-}
-
-// Where the field that begins at `from` ends.
-fn end(line: &[u8], from: usize) -> usize
-    requires { from ≤ length line.now }
-    ensures { (from ≤ result) × (result ≤ length line.now) }
-{
-    let mut i = from;
-    while i < line.len() {
-        if line[i] == b' ' {
-            return i;
-        }
-        i += 1;
-    }
-    i
-}
-
-fn one_if_space(b: u8) -> usize
-    ensures { result ≤ 1 }
-{
-    if b == b' ' { 1 } else { 0 }
-}
-
-fn spaces(line: &[u8]) -> usize {
-    let mut n = 0;
-    let mut i = 0;
-    while i < line.len() {
-        n += one_if_space(line[i]);
-        i += 1;
-    }
-    n
-}
-
-fn field_at(line: &[u8], k: usize) -> Field {
-    let from = start(line, k);
-    let to = end(line, from);
-    value(&line[from..to])
-}
-
-// Whether the line is this name and `fields` fields.
-pub fn is_line(line: &[u8], name: &[u8], fields: usize) -> bool {
-    let to = end(line, 0);
-    if !check::same(&line[..to], name) {
-        return false;
-    }
-    spaces(line) == fields
-}
-
-fn new(line: &[u8]) -> Line {
-    let Field::Number(base) = field_at(line, 1) else {
-        return Line::Unreadable;
-    };
-    let Field::Number(frames) = field_at(line, 2) else {
-        return Line::Unreadable;
-    };
-    let Field::Number(used) = field_at(line, 3) else {
-        return Line::Unreadable;
-    };
-    if MOST_FRAMES < frames {
-        return Line::Unreadable;
-    }
-    Line::New(base, frames, used)
-}
-
-fn word(line: &[u8]) -> Line {
-    let Field::Number(index) = field_at(line, 1) else {
-        return Line::Unreadable;
-    };
-    let Field::Number(value) = field_at(line, 2) else {
-        return Line::Unreadable;
-    };
-    Line::Word(index, value)
-}
-
-fn map(line: &[u8]) -> Line {
-    let Field::Number(vaddr) = field_at(line, 1) else {
-        return Line::Unreadable;
-    };
-    let Field::Number(size) = field_at(line, 2) else {
-        return Line::Unreadable;
-    };
-    let Field::Number(paddr) = field_at(line, 3) else {
-        return Line::Unreadable;
-    };
-    let Field::Number(flags) = field_at(line, 4) else {
-        return Line::Unreadable;
-    };
-    match size {
-        0x1000 => Line::Map(vaddr, PageSize::Size4K, paddr, MMUFlags(flags)),
-        0x20_0000 => Line::Map(vaddr, PageSize::Size2M, paddr, MMUFlags(flags)),
-        0x4000_0000 => Line::Map(vaddr, PageSize::Size1G, paddr, MMUFlags(flags)),
-        _ => Line::Unreadable,
+// A number, or a dash.
+fn field(text: &[u8]) -> Option<Option<u64>> {
+    match text {
+        b"-" => Some(None),
+        _ => Some(Some(number(text)?)),
     }
 }
 
-fn unmap(line: &[u8]) -> Line {
-    let Field::Number(vaddr) = field_at(line, 1) else {
-        return Line::Unreadable;
-    };
-    Line::Unmap(vaddr)
-}
-
-pub fn query(line: &[u8]) -> Line {
-    let Field::Number(vaddr) = field_at(line, 1) else {
-        return Line::Unreadable;
-    };
-    Line::Query(vaddr)
-}
-
-fn update(line: &[u8]) -> Line {
-    let Field::Number(vaddr) = field_at(line, 1) else {
-        return Line::Unreadable;
-    };
-    match field_at(line, 2) {
-        Field::Number(paddr) => update_to(line, vaddr, NewAddr::To(paddr)),
-        Field::Dash => update_to(line, vaddr, NewAddr::Keep),
-        Field::Bad => Line::Unreadable,
+fn flag(n: u64) -> Option<bool> {
+    match n {
+        0 => Some(false),
+        1 => Some(true),
+        _ => None,
     }
 }
 
-fn update_to(line: &[u8], vaddr: u64, paddr: NewAddr) -> Line {
-    match field_at(line, 3) {
-        Field::Number(flags) => Line::Update(vaddr, paddr, NewFlags::To(MMUFlags(flags))),
-        Field::Dash => Line::Update(vaddr, paddr, NewFlags::Keep),
-        Field::Bad => Line::Unreadable,
+fn page_size(bytes: u64) -> Option<PageSize> {
+    match bytes {
+        0x1000 => Some(PageSize::Size4K),
+        0x20_0000 => Some(PageSize::Size2M),
+        0x4000_0000 => Some(PageSize::Size1G),
+        _ => None,
     }
 }
 
-pub fn map_cont(line: &[u8]) -> Line {
-    let Field::Number(vaddr) = field_at(line, 1) else {
-        return Line::Unreadable;
-    };
-    let Field::Number(size) = field_at(line, 2) else {
-        return Line::Unreadable;
-    };
-    let Field::Number(paddr) = field_at(line, 3) else {
-        return Line::Unreadable;
-    };
-    let Field::Number(flags) = field_at(line, 4) else {
-        return Line::Unreadable;
-    };
-    Line::MapCont(vaddr, size, paddr, MMUFlags(flags))
-}
-
-pub fn unmap_cont(line: &[u8]) -> Line {
-    let Field::Number(vaddr) = field_at(line, 1) else {
-        return Line::Unreadable;
-    };
-    let Field::Number(size) = field_at(line, 2) else {
-        return Line::Unreadable;
-    };
-    Line::UnmapCont(vaddr, size)
-}
-
-// Field k, after those that are read already.
-fn with_field(mut fields: Fields, k: usize, field: Field) -> Fields
-    requires { k < 10 }
-{
-    match field {
-        Field::Number(n) => fields.n[k] = n,
-        Field::Dash => {
-            if k == 1 {
-                fields.is_dash = true;
-            } else {
-                fields.is_bad = true;
+fn on_pool(name: &[u8], fields: &[Option<u64>]) -> Option<OnPool> {
+    match (name, fields) {
+        (b"new", &[Some(base), Some(frames), Some(used)]) => {
+            if MOST_FRAMES < frames {
+                return None;
             }
+            Some(OnPool::New {
+                base,
+                frames: frames as usize,
+                used: used as usize,
+            })
         }
-        Field::Bad => fields.is_bad = true,
-    }
-    fields
-}
-
-// The first `many` fields.
-fn read_fields(line: &[u8], many: usize) -> Fields {
-    let none = [0u64; 10];
-    let mut out = Fields {
-        n: none,
-        is_dash: false,
-        is_bad: false,
-    };
-    let mut k = 0;
-    while k < MOST_FIELDS {
-        if k < many {
-            out = with_field(out, k, field_at(line, k + 1));
+        (b"word", &[Some(index), Some(value)]) => Some(OnPool::Word { index, value }),
+        (b"dump", []) => Some(OnPool::Dump),
+        (b"sum", []) => Some(OnPool::Sum),
+        (b"map", &[Some(vaddr), Some(size), Some(paddr), Some(flags)]) => Some(OnPool::Map {
+            vaddr,
+            size: page_size(size)?,
+            paddr,
+            flags: MMUFlags(flags),
+        }),
+        (b"unmap", &[Some(vaddr)]) => Some(OnPool::Unmap(vaddr)),
+        (b"update", &[Some(vaddr), paddr, flags]) => Some(OnPool::Update {
+            vaddr,
+            paddr,
+            flags: flags.map(MMUFlags),
+        }),
+        (b"query", &[Some(vaddr)]) => Some(OnPool::Query(vaddr)),
+        (b"map_cont", &[Some(vaddr), Some(len), Some(paddr), Some(flags)]) => {
+            Some(OnPool::MapCont {
+                vaddr,
+                len,
+                paddr,
+                flags: MMUFlags(flags),
+            })
         }
-        k += 1;
-    }
-    out
-}
-
-// A dash stands for an offset, and nowhere else.
-fn may_have_dash(what: What) -> bool {
-    match what {
-        What::Alloc => true,
-        What::MapExt => true,
-        _ => false,
+        (b"unmap_cont", &[Some(vaddr), Some(len)]) => Some(OnPool::UnmapCont { vaddr, len }),
+        _ => None,
     }
 }
 
-// The fields of a line of the space.
-pub fn fields_of(line: &[u8]) -> Fields {
-    read_fields(line, spaces(line))
-}
-
-// The line, if its fields are in order.
-pub fn with_fields(line: &[u8], what: What, many: usize) -> Line {
-    let f = read_fields(line, many);
-    if f.is_bad {
-        return Line::Unreadable;
-    }
-    if f.is_dash {
-        if !may_have_dash(what) {
-            return Line::Unreadable;
+fn on_space(name: &[u8], fields: &[Option<u64>]) -> Option<OnSpace> {
+    match (name, fields) {
+        (b"root", []) => Some(OnSpace::Root),
+        (b"kernel", []) => Some(OnSpace::Kernel),
+        (b"alloc", &[Some(region), offset, Some(len), Some(flags), Some(align)]) => {
+            Some(OnSpace::Alloc {
+                region,
+                offset,
+                len,
+                flags: VmarFlags(flags),
+                align,
+            })
         }
+        (
+            b"map_ext",
+            &[
+                Some(region),
+                offset,
+                Some(vmo),
+                Some(vmo_len),
+                Some(vmo_offset),
+                Some(len),
+                Some(permissions),
+                Some(flags),
+                Some(overwrite),
+                Some(allow_faults),
+            ],
+        ) => Some(OnSpace::MapExt {
+            region,
+            offset,
+            vmo,
+            vmo_len,
+            vmo_offset,
+            len,
+            permissions: MMUFlags(permissions),
+            flags: MMUFlags(flags),
+            overwrite: flag(overwrite)?,
+            allow_faults: flag(allow_faults)?,
+        }),
+        (b"mflags", &[Some(region), Some(vaddr)]) => {
+            Some(OnSpace::MappingFlags { region, vaddr })
+        }
+        (b"vflags", &[Some(region), Some(vaddr)]) => Some(OnSpace::VaddrFlags { region, vaddr }),
+        (b"check", &[Some(region), Some(vaddr), Some(len), Some(access)]) => {
+            Some(OnSpace::Check {
+                region,
+                vaddr,
+                len,
+                access: MMUFlags(access),
+            })
+        }
+        (b"runmap", &[Some(region), Some(vaddr), Some(len)]) => {
+            Some(OnSpace::Unmap { region, vaddr, len })
+        }
+        (b"protect", &[Some(region), Some(vaddr), Some(len), Some(flags)]) => {
+            Some(OnSpace::Protect {
+                region,
+                vaddr,
+                len,
+                flags: MMUFlags(flags),
+            })
+        }
+        (b"destroy", &[Some(region)]) => Some(OnSpace::Destroy(region)),
+        (b"clear", &[Some(region)]) => Some(OnSpace::Clear(region)),
+        _ => on_record(name, fields),
     }
-    Line::Space(what)
 }
 
-fn parse_space(line: &[u8]) -> Line {
-    if is_line(line, b"alloc", 5) {
-        return with_fields(line, What::Alloc, 5);
+fn on_record(name: &[u8], fields: &[Option<u64>]) -> Option<OnSpace> {
+    match (name, fields) {
+        (
+            b"region",
+            &[
+                Some(slot),
+                Some(live),
+                Some(id),
+                Some(addr),
+                Some(size),
+                Some(flags),
+                Some(parent),
+            ],
+        ) => Some(OnSpace::Region {
+            slot: slot as usize,
+            record: Region {
+                live: flag(live)?,
+                id,
+                addr,
+                size,
+                flags,
+                parent: parent as usize,
+            },
+        }),
+        (
+            b"mapping",
+            &[
+                Some(slot),
+                Some(live),
+                Some(region),
+                Some(addr),
+                Some(size),
+                Some(vmo),
+                Some(offset),
+                Some(permissions),
+            ],
+        ) => Some(OnSpace::Mapping {
+            slot: slot as usize,
+            record: Mapping {
+                live: flag(live)?,
+                region: region as usize,
+                addr,
+                size,
+                vmo,
+                offset,
+                permissions,
+            },
+        }),
+        (b"reglist", &[Some(place), Some(slot)]) => Some(OnSpace::Reglist {
+            place: place as usize,
+            slot: slot as usize,
+        }),
+        (b"maplist", &[Some(place), Some(slot)]) => Some(OnSpace::Maplist {
+            place: place as usize,
+            slot: slot as usize,
+        }),
+        (b"counts", &[Some(regions), Some(mappings), Some(nextid)]) => Some(OnSpace::Counts {
+            regions: regions as usize,
+            mappings: mappings as usize,
+            nextid,
+        }),
+        (b"page", &[Some(index), Some(flags)]) => Some(OnSpace::Page {
+            index: index as usize,
+            flags: u8::try_from(flags).ok()?,
+        }),
+        (b"lend", &[Some(many)]) => Some(OnSpace::Lend(many as usize)),
+        _ => None,
     }
-    if is_line(line, b"map_ext", 10) {
-        return with_fields(line, What::MapExt, 10);
-    }
-    if is_line(line, b"mflags", 2) {
-        return with_fields(line, What::MappingFlags, 2);
-    }
-    if is_line(line, b"vflags", 2) {
-        return with_fields(line, What::VaddrFlags, 2);
-    }
-    if is_line(line, b"check", 4) {
-        return with_fields(line, What::Check, 4);
-    }
-    if is_line(line, b"tree", 0) {
-        return with_fields(line, What::Tree, 0);
-    }
-    if is_line(line, b"space", 0) {
-        return with_fields(line, What::Space, 0);
-    }
-    if is_line(line, b"root", 0) {
-        return with_fields(line, What::Root, 0);
-    }
-    if is_line(line, b"kernel", 0) {
-        return with_fields(line, What::Kernel, 0);
-    }
-    parse_cut(line)
 }
 
-fn parse_cut(line: &[u8]) -> Line {
-    if is_line(line, b"runmap", 3) {
-        return with_fields(line, What::Unmap, 3);
+// None of a line that cannot be read.
+pub fn parse(line: &[u8]) -> Option<Line> {
+    let words = Words::of(line)?;
+    match (words.name, words.fields()) {
+        (b"space", []) => Some(Line::Records),
+        (b"tree", []) => Some(Line::Tree),
+        (name, fields) => match on_pool(name, fields) {
+            Some(on) => Some(Line::Pool(on)),
+            None => on_space(name, fields).map(Line::Space),
+        },
     }
-    if is_line(line, b"protect", 4) {
-        return with_fields(line, What::Protect, 4);
-    }
-    if is_line(line, b"destroy", 1) {
-        return with_fields(line, What::Destroy, 1);
-    }
-    if is_line(line, b"clear", 1) {
-        return with_fields(line, What::Clear, 1);
-    }
-    parse_setter(line)
-}
-
-fn parse_setter(line: &[u8]) -> Line {
-    if is_line(line, b"region", 7) {
-        return with_fields(line, What::Region, 7);
-    }
-    if is_line(line, b"mapping", 8) {
-        return with_fields(line, What::Mapping, 8);
-    }
-    if is_line(line, b"reglist", 2) {
-        return with_fields(line, What::Reglist, 2);
-    }
-    if is_line(line, b"maplist", 2) {
-        return with_fields(line, What::Maplist, 2);
-    }
-    if is_line(line, b"counts", 3) {
-        return with_fields(line, What::Counts, 3);
-    }
-    if is_line(line, b"page", 2) {
-        return with_fields(line, What::Page, 2);
-    }
-    if is_line(line, b"lend", 1) {
-        return with_fields(line, What::Lend, 1);
-    }
-    Line::Unreadable
-}
-
-pub fn parse(line: &[u8]) -> Line {
-    if is_line(line, b"query", 1) {
-        return query(line);
-    }
-    if is_line(line, b"map", 4) {
-        return map(line);
-    }
-    if is_line(line, b"unmap", 1) {
-        return unmap(line);
-    }
-    if is_line(line, b"update", 3) {
-        return update(line);
-    }
-    if is_line(line, b"map_cont", 4) {
-        return map_cont(line);
-    }
-    if is_line(line, b"unmap_cont", 2) {
-        return unmap_cont(line);
-    }
-    if is_line(line, b"new", 3) {
-        return new(line);
-    }
-    if is_line(line, b"word", 2) {
-        return word(line);
-    }
-    if is_line(line, b"dump", 0) {
-        return Line::Dump;
-    }
-    if is_line(line, b"sum", 0) {
-        return Line::Sum;
-    }
-    parse_space(line)
 }

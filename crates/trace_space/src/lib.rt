@@ -2,329 +2,226 @@
 // docs/REPLAY.md has them.
 #![tactic(auto)]
 
-mod setting;
-
-use common::defs::{MMUFlags, VmarFlags};
+use lines::{code, number};
 use refusal::Refusal;
+use space::FLAGS;
 use std::io::{self, Write};
-use trace_line::{Fields, What};
-use vmar::{AddressSpace, Cut};
-use vmar_allocate::AllocateResult;
-use vmar_lookup::FlagsResult;
-use vmar_map::{MapExtResult, Vmo};
-use vmar_offset::Offset;
-use vmar_protect::ProtectResult;
-use vmar_unmap::CutResult;
-use vmar_user_range::UserRangeResult;
+use trace_line::{OnSpace, Unanswered};
+use trace_table::{Pool, finish, write_unanswered};
+use vmar::{AddressSpace, Answer, Changed};
+use vmar_map::Vmo;
 
-// A space, and how many page flags are lent with it.
-#[derive(Clone, Copy)]
+// Page flags, and how many of them are lent with calls.
+#[derive(Drop)]
+struct Pages {
+    flags: [u8; FLAGS],
+    many: usize,
+}
+
+impl Pages {
+    fn new() -> Pages {
+        Pages {
+            flags: [0; FLAGS],
+            many: FLAGS,
+        }
+    }
+
+    fn lent(&mut self) -> &mut [u8] {
+        let many = self.many.min(FLAGS);
+        &mut self.flags[..many]
+    }
+}
+
+#[derive(Drop)]
 pub struct Held {
-    pub space: AddressSpace,
-    pub lent: usize,
+    space: AddressSpace,
+    pages: Pages,
 }
 
-// Refusal number and value, beside what is held and the frames in use then.
-#[derive(Clone, Copy)]
-pub struct Reply {
-    pub number: u64,
-    pub value: u64,
-    pub held: Held,
-    pub used: usize,
+// Where there is such a place.
+fn set<T: Copy>(places: &mut [T], at: usize, value: T) -> Result<u64, Unanswered> {
+    let place = places.get_mut(at).ok_or(Unanswered::Unreadable)?;
+    *place = value;
+    Ok(0)
 }
 
-pub fn fresh() -> Held {
-    Held {
-        space: AddressSpace::new_root(),
-        lent: space::FLAGS,
+impl Held {
+    pub fn fresh() -> Held {
+        Held {
+            space: AddressSpace::new_root(),
+            pages: Pages::new(),
+        }
     }
-}
 
-fn done(space: AddressSpace, lent: usize, used: usize, value: u64) -> Reply {
-    let held = Held {
-        space: space,
-        lent: lent,
-    };
-    Reply {
-        number: 0,
-        value: value,
-        held: held,
-        used: used,
+    fn start(&mut self, space: AddressSpace) -> Result<u64, Unanswered> {
+        self.space = space;
+        self.pages = Pages::new();
+        Ok(0)
     }
-}
 
-fn refused(space: AddressSpace, lent: usize, used: usize, why: Refusal) -> Reply {
-    let held = Held {
-        space: space,
-        lent: lent,
-    };
-    Reply {
-        number: why.number(),
-        value: 0,
-        held: held,
-        used: used,
+    fn answered<T>(&mut self, after: Answer<T>) -> Result<T, Unanswered> {
+        self.space = after.space;
+        Ok(after.result?)
     }
-}
 
-// A line that cannot be read.
-fn unreadable(held: Held, used: usize) -> Reply {
-    Reply {
-        number: 16,
-        value: 0,
-        held: held,
-        used: used,
+    fn changed<T>(&mut self, pool: &mut Pool, after: Changed<T>) -> Result<T, Unanswered> {
+        self.space = after.space;
+        pool.used = after.used;
+        Ok(after.result?)
     }
-}
 
-fn offset(f: Fields) -> Offset {
-    if f.is_dash {
-        return Offset::None;
+    // The value of a line's answer.
+    pub fn make(&mut self, pool: &mut Pool, on: OnSpace) -> Result<u64, Unanswered> {
+        let (base, used) = (pool.base, pool.used);
+        match on {
+            OnSpace::Root => self.start(AddressSpace::new_root()),
+            OnSpace::Kernel => self.start(AddressSpace::new_kernel()),
+            OnSpace::Alloc {
+                region,
+                offset,
+                len,
+                flags,
+                align,
+            } => {
+                let pages = self.pages.lent();
+                let after = self
+                    .space
+                    .allocate(pages, region, offset, len, flags, align);
+                self.answered(after)
+            }
+            OnSpace::MapExt {
+                region,
+                offset,
+                vmo,
+                vmo_len,
+                vmo_offset,
+                len,
+                permissions,
+                flags,
+                overwrite,
+                allow_faults,
+            } => {
+                let vmo = Vmo {
+                    id: vmo,
+                    len: vmo_len,
+                };
+                let pages = self.pages.lent();
+                let after = self.space.map_ext(
+                    pages,
+                    pool.lent(),
+                    base,
+                    used,
+                    region,
+                    offset,
+                    vmo,
+                    vmo_offset,
+                    len,
+                    permissions,
+                    flags,
+                    overwrite,
+                    allow_faults,
+                );
+                self.changed(pool, after)
+            }
+            OnSpace::MappingFlags { region, vaddr } => {
+                let pages = self.pages.lent();
+                let after = self.space.get_mapping_flags(pages, region, vaddr);
+                Ok(self.answered(after)?.0)
+            }
+            OnSpace::VaddrFlags { region, vaddr } => {
+                let pages = self.pages.lent();
+                let after = self
+                    .space
+                    .get_vaddr_flags(pages, pool.lent(), base, used, region, vaddr);
+                Ok(self.answered(after)?.0)
+            }
+            OnSpace::Check {
+                region,
+                vaddr,
+                len,
+                access,
+            } => {
+                let pages = self.pages.lent();
+                let after = self
+                    .space
+                    .check_user_range(pages, region, vaddr, len, access);
+                self.answered(after)?;
+                Ok(0)
+            }
+            OnSpace::Unmap { region, vaddr, len } => {
+                let pages = self.pages.lent();
+                let after = self
+                    .space
+                    .unmap(pages, pool.lent(), base, used, region, vaddr, len);
+                self.changed(pool, after)?;
+                Ok(0)
+            }
+            OnSpace::Protect {
+                region,
+                vaddr,
+                len,
+                flags,
+            } => {
+                let pages = self.pages.lent();
+                let after = self
+                    .space
+                    .protect(pages, pool.lent(), base, used, region, vaddr, len, flags);
+                self.answered(after)?;
+                Ok(0)
+            }
+            OnSpace::Destroy(region) => {
+                let pages = self.pages.lent();
+                let after = self.space.destroy(pages, pool.lent(), base, used, region);
+                self.changed(pool, after)?;
+                Ok(0)
+            }
+            OnSpace::Clear(region) => {
+                let pages = self.pages.lent();
+                let after = self.space.clear(pages, pool.lent(), base, used, region);
+                self.changed(pool, after)?;
+                Ok(0)
+            }
+            OnSpace::Region { slot, record } => set(&mut self.space.space.regions, slot, record),
+            OnSpace::Mapping { slot, record } => set(&mut self.space.space.mappings, slot, record),
+            OnSpace::Reglist { place, slot } => set(&mut self.space.space.reglist, place, slot),
+            OnSpace::Maplist { place, slot } => set(&mut self.space.space.maplist, place, slot),
+            OnSpace::Counts {
+                regions,
+                mappings,
+                nextid,
+            } => {
+                self.space.space.regcount = regions;
+                self.space.space.mapcount = mappings;
+                self.space.space.nextid = nextid;
+                Ok(0)
+            }
+            OnSpace::Page { index, flags } => set(&mut self.pages.flags, index, flags),
+            OnSpace::Lend(many) => {
+                if FLAGS < many {
+                    return Err(Unanswered::Unreadable);
+                }
+                self.pages.many = many;
+                Ok(0)
+            }
+        }
     }
-    Offset::Some(f.n[1])
-}
 
-fn alloc(held: Held, pages: &[u8], used: usize, f: Fields) -> Reply {
-    let out = held.space.allocate(pages, f.n[0], offset(f), f.n[2], VmarFlags(f.n[3]), f.n[4]);
-    let result = out.result;
-    match result {
-        AllocateResult::Region(id) => done(out.space, held.lent, used, id),
-        AllocateResult::Refused(why) => refused(out.space, held.lent, used, why),
+    // Every field that is not 0, and every page flag.
+    pub fn write_space<W: Write>(&self, used: usize, out: &mut W) -> io::Result<()> {
+        code(out, 0)?;
+        number(out, self.pages.many as u64)?;
+        trace_listing::records(&self.space.space, out)?;
+        trace_listing::page_flags(&self.pages.flags, out)?;
+        finish(out, used)
     }
-}
 
-fn map_ext(
-    held: Held,
-    pages: &mut [u8],
-    pool: &mut [u64],
-    base: u64,
-    used: usize,
-    f: Fields,
-) -> Reply {
-    if 1 < f.n[8] {
-        return unreadable(held, used);
+    // The regions with their children and mappings, if the space passes its check with what is lent.
+    pub fn write_tree<W: Write>(&mut self, used: usize, out: &mut W) -> io::Result<()> {
+        if !space_check::is_good(&self.space.space, self.pages.lent()) {
+            return write_unanswered(out, Unanswered::Refused(Refusal::BadSpace), used);
+        }
+        code(out, 0)?;
+        trace_listing::tree(&self.space.space, &self.pages.flags, out)?;
+        finish(out, used)
     }
-    if 1 < f.n[9] {
-        return unreadable(held, used);
-    }
-    let vmo = Vmo {
-        id: f.n[2],
-        len: f.n[3],
-    };
-    let out = held.space.map_ext(
-        pages,
-        pool,
-        base,
-        used,
-        f.n[0],
-        offset(f),
-        vmo,
-        f.n[4],
-        f.n[5],
-        MMUFlags(f.n[6]),
-        MMUFlags(f.n[7]),
-        f.n[8] == 1,
-        f.n[9] == 1,
-    );
-    let result = out.result;
-    match result {
-        MapExtResult::Mapped(addr) => done(out.space, held.lent, out.used, addr),
-        MapExtResult::Refused(why) => refused(out.space, held.lent, out.used, why),
-    }
-}
-
-fn flags_reply(space: AddressSpace, lent: usize, used: usize, res: FlagsResult) -> Reply {
-    match res {
-        FlagsResult::Flags(flags) => done(space, lent, used, flags.0),
-        FlagsResult::Refused(why) => refused(space, lent, used, why),
-    }
-}
-
-fn mapping_flags(held: Held, pages: &[u8], used: usize, f: Fields) -> Reply {
-    let out = held.space.get_mapping_flags(pages, f.n[0], f.n[1]);
-    let result = out.result;
-    flags_reply(out.space, held.lent, used, result)
-}
-
-fn vaddr_flags(held: Held, pages: &[u8], pool: &[u64], base: u64, used: usize, f: Fields) -> Reply {
-    let out = held
-        .space
-        .get_vaddr_flags(pages, pool, base, used, f.n[0], f.n[1]);
-    let result = out.result;
-    flags_reply(out.space, held.lent, used, result)
-}
-
-fn check(held: Held, pages: &[u8], used: usize, f: Fields) -> Reply {
-    let out = held
-        .space
-        .check_user_range(pages, f.n[0], f.n[1], f.n[2], MMUFlags(f.n[3]));
-    let result = out.result;
-    match result {
-        UserRangeResult::Allowed => done(out.space, held.lent, used, 0),
-        UserRangeResult::Refused(why) => refused(out.space, held.lent, used, why),
-    }
-}
-
-// What a call that cuts answers.
-fn cut(out: Cut, lent: usize) -> Reply {
-    let result = out.result;
-    match result {
-        CutResult::Done => done(out.space, lent, out.used, 0),
-        CutResult::Refused(why) => refused(out.space, lent, out.used, why),
-    }
-}
-
-fn unmap(
-    held: Held,
-    pages: &mut [u8],
-    pool: &mut [u64],
-    base: u64,
-    used: usize,
-    f: Fields,
-) -> Reply {
-    let out = held
-        .space
-        .unmap(pages, pool, base, used, f.n[0], f.n[1], f.n[2]);
-    cut(out, held.lent)
-}
-
-fn destroy(
-    held: Held,
-    pages: &mut [u8],
-    pool: &mut [u64],
-    base: u64,
-    used: usize,
-    f: Fields,
-) -> Reply {
-    let out = held.space.destroy(pages, pool, base, used, f.n[0]);
-    cut(out, held.lent)
-}
-
-fn clear(
-    held: Held,
-    pages: &mut [u8],
-    pool: &mut [u64],
-    base: u64,
-    used: usize,
-    f: Fields,
-) -> Reply {
-    let out = held.space.clear(pages, pool, base, used, f.n[0]);
-    cut(out, held.lent)
-}
-
-fn protect(
-    held: Held,
-    pages: &mut [u8],
-    pool: &mut [u64],
-    base: u64,
-    used: usize,
-    f: Fields,
-) -> Reply {
-    let flags = MMUFlags(f.n[3]);
-    let out = held
-        .space
-        .protect(pages, pool, base, used, f.n[0], f.n[1], f.n[2], flags);
-    let result = out.result;
-    match result {
-        ProtectResult::Protected => done(out.space, held.lent, used, 0),
-        ProtectResult::Refused(why) => refused(out.space, held.lent, used, why),
-    }
-}
-
-// A call that changes mappings, with the page flags that are lent.
-fn change(
-    held: Held,
-    pages: &mut [u8],
-    pool: &mut [u64],
-    base: u64,
-    used: usize,
-    what: What,
-    f: Fields,
-) -> Reply {
-    match what {
-        What::MapExt => map_ext(held, pages, pool, base, used, f),
-        What::Unmap => unmap(held, pages, pool, base, used, f),
-        What::Protect => protect(held, pages, pool, base, used, f),
-        What::Destroy => destroy(held, pages, pool, base, used, f),
-        What::Clear => clear(held, pages, pool, base, used, f),
-        _ => unreadable(held, used),
-    }
-}
-
-fn call(
-    held: Held,
-    pages: &mut [u8],
-    pool: &mut [u64],
-    base: u64,
-    used: usize,
-    what: What,
-    f: Fields,
-) -> Reply {
-    match what {
-        What::Alloc => alloc(held, pages, used, f),
-        What::MappingFlags => mapping_flags(held, pages, used, f),
-        What::VaddrFlags => vaddr_flags(held, pages, pool, base, used, f),
-        What::Check => check(held, pages, used, f),
-        _ => change(held, pages, pool, base, used, what, f),
-    }
-}
-
-fn lent_call(
-    held: Held,
-    pages: &mut [u8],
-    pool: &mut [u64],
-    base: u64,
-    used: usize,
-    what: What,
-    f: Fields,
-) -> Reply {
-    let lent = held.lent;
-    if pages.len() < lent {
-        return unreadable(held, used);
-    }
-    call(held, &mut pages[..lent], pool, base, used, what, f)
-}
-
-// Answers a line that is no listing.
-pub fn answer(
-    held: Held,
-    pages: &mut [u8],
-    pool: &mut [u64],
-    base: u64,
-    used: usize,
-    what: What,
-    f: Fields,
-) -> Reply {
-    match what {
-        What::Root => setting::start(AddressSpace::new_root(), pages, used),
-        What::Kernel => setting::start(AddressSpace::new_kernel(), pages, used),
-        What::Region => setting::region(held, used, f),
-        What::Mapping => setting::mapping(held, used, f),
-        What::Reglist => setting::reglist(held, used, f),
-        What::Maplist => setting::maplist(held, used, f),
-        What::Counts => setting::counts(held, used, f),
-        What::Page => setting::page(held, pages, used, f),
-        What::Lend => setting::lend(held, used, f),
-        _ => lent_call(held, pages, pool, base, used, what, f),
-    }
-}
-
-// Whether the space passes its check with what is lent.
-pub fn is_good(held: Held, pages: &[u8]) -> bool {
-    let lent = held.lent;
-    if pages.len() < lent {
-        return false;
-    }
-    space_check::is_good(held.space.space, &pages[..lent])
-}
-
-// Every field that is not 0, and every page flag.
-pub fn write_space<W: Write>(held: Held, pages: &[u8], out: &mut W) -> io::Result<()> {
-    trace_listing::number(out, held.lent as u64)?;
-    trace_listing::records(held.space.space, out)?;
-    trace_listing::page_flags(pages, out)
-}
-
-// The regions with their children and mappings.
-pub fn write_tree<W: Write>(held: Held, pages: &[u8], out: &mut W) -> io::Result<()> {
-    trace_listing::tree(held.space.space, pages, out)
 }

@@ -1,215 +1,225 @@
 // The lines of a trace that make table calls: what each does to a pool, and how its answer is written. docs/REPLAY.md has them.
 #![tactic(auto)]
 
-ghost use Rattle.std.specs.Prelude.{◌≤◌, length};
+ghost use Rattle.std.specs.Prelude.{◌≡◌, ◌*◌, OnOk, Ok, Err, length, min, replicate};
+ghost use Rattle.std.specs.Io.KnownBytes.{Appends};
+ghost use Rattle.trace_table.specs.Told.{finished, told};
 
+use common::defs::{MMUFlags, PhysAddr, VirtAddr};
+use common::vm::PageSize;
+use lines::{code, number, numbers};
 use std::io::{self, Write};
-use std::num::wrapping_add_u64;
-use table::{NewAddr, NewFlags, QueryResult, UnmapResult, UpdateResult};
-use table_map::MapResult;
-use table_unmap_cont::UnmapContResult;
-use trace_line::Line;
+use trace_line::{OnPool, Unanswered};
 
 const FRAME_WORDS: usize = 512;
 
-// Refusal number, frames in use afterwards, and one to three values.
-#[derive(Clone, Copy)]
-pub struct Answer {
-    pub number: u64,
+const MOST_FRAMES: usize = 64;
+
+// Those of the most frames.
+const WORDS: usize = 32768;
+
+// A pool in fixed memory, of which a trace lends so many frames, and what calls on it take.
+#[derive(Drop)]
+pub struct Pool {
+    words: [u64; WORDS],
+    frames: usize,
+    pub base: PhysAddr,
     pub used: usize,
-    pub many: usize,
-    pub a: u64,
-    pub b: u64,
-    pub c: u64,
 }
 
-pub fn refused(number: u64, used: usize) -> Answer {
-    Answer {
-        number,
-        used,
-        many: 1,
-        a: 0,
-        b: 0,
-        c: 0,
+impl Pool {
+    pub fn new() -> Pool
+        ensures { result ≡ record { words = replicate 32768 0; frames = 8; base = 0x100000; used = 1 } }
+    {
+        Pool {
+            words: [0; WORDS],
+            frames: 8,
+            base: 0x10_0000,
+            used: 1,
+        }
     }
-}
 
-pub fn done(used: usize, many: usize, a: u64, b: u64, c: u64) -> Answer {
-    Answer {
-        number: 0,
-        used,
-        many,
-        a,
-        b,
-        c,
+    // The words of its frames.
+    pub fn lent(&mut self) -> &mut [u64]
+        ensures { length result.now ≡ min self.old.frames 64 * 512 }
+    {
+        let len = self.frames.min(MOST_FRAMES) * FRAME_WORDS;
+        &mut self.words[..len]
     }
-}
 
-fn unreadable(used: usize) -> Answer {
-    refused(16, used)
-}
-
-fn query(pool: &[u64], base: u64, used: usize, vaddr: u64) -> Answer {
-    match page_table::query(pool, base, used, vaddr) {
-        QueryResult::Page(paddr, flags, size) => done(used, 3, paddr, flags.0, size.size()),
-        QueryResult::Refused(r) => refused(r.number(), used),
+    fn renew(&mut self, base: PhysAddr, frames: usize, used: usize) {
+        self.words.fill(0);
+        self.base = base;
+        self.frames = frames;
+        self.used = used;
     }
-}
 
-fn unmap(pool: &mut [u64], base: u64, used: usize, vaddr: u64) -> Answer {
-    match page_table::unmap(pool, base, used, vaddr) {
-        UnmapResult::Unmapped(paddr, size) => done(used, 2, paddr, size.size(), 0),
-        UnmapResult::Refused(r) => refused(r.number(), used),
+    fn set_word(&mut self, index: u64, value: u64) -> Result<[u64; 1], Unanswered> {
+        let word = self
+            .lent()
+            .get_mut(index as usize)
+            .ok_or(Unanswered::Unreadable)?;
+        *word = value;
+        Ok([0])
     }
-}
 
-fn update(
-    pool: &mut [u64],
-    base: u64,
-    used: usize,
-    vaddr: u64,
-    paddr: NewAddr,
-    flags: NewFlags,
-) -> Answer {
-    match page_table::update(pool, base, used, vaddr, paddr, flags) {
-        UpdateResult::Updated(size) => done(used, 1, size.size(), 0, 0),
-        UpdateResult::Refused(r) => refused(r.number(), used),
+    // Two sums over every word, taken or not; the second weighs each word by its place.
+    fn sums(&mut self) -> [u64; 2] {
+        let mut first: u64 = 0;
+        let mut second: u64 = 0;
+        for word in self.lent().iter() {
+            first = first.wrapping_add(*word);
+            second = second.wrapping_add(first);
+        }
+        [first, second]
     }
-}
 
-// What a map answers, of one page or of a range.
-fn mapped(answer: MapResult, used: usize) -> Answer {
-    match answer {
-        MapResult::Mapped(after) => done(after, 1, 0, 0, 0),
-        MapResult::Refused(r) => refused(r.number(), used),
+    fn query(&mut self, vaddr: VirtAddr) -> Result<[u64; 3], Unanswered> {
+        let (base, used) = (self.base, self.used);
+        let (paddr, flags, size) = page_table::query(self.lent(), base, used, vaddr)?;
+        Ok([paddr, flags.0, size.size()])
     }
-}
 
-fn unmap_cont(pool: &mut [u64], base: u64, used: usize, vaddr: u64, size: u64) -> Answer {
-    match generic_page_table::unmap_cont(pool, base, used, vaddr, size) {
-        UnmapContResult::Unmapped(taken) => done(
-            wrapping_add_u64(used as u64, taken as u64) as usize,
-            1,
-            taken as u64,
-            0,
-            0,
-        ),
-        UnmapContResult::Refused(r) => refused(r.number(), used),
+    fn unmap(&mut self, vaddr: VirtAddr) -> Result<[u64; 2], Unanswered> {
+        let (base, used) = (self.base, self.used);
+        let (paddr, size) = page_table::unmap(self.lent(), base, used, vaddr)?;
+        Ok([paddr, size.size()])
     }
-}
 
-fn set_word(pool: &mut [u64], used: usize, index: u64, word: u64) -> Answer {
-    let at = index as usize;
-    if pool.len() <= at {
-        return unreadable(used);
+    fn update(
+        &mut self,
+        vaddr: VirtAddr,
+        paddr: Option<PhysAddr>,
+        flags: Option<MMUFlags>,
+    ) -> Result<[u64; 1], Unanswered> {
+        let (base, used) = (self.base, self.used);
+        let size = page_table::update(self.lent(), base, used, vaddr, paddr, flags)?;
+        Ok([size.size()])
     }
-    pool[at] = word;
-    done(used, 1, 0, 0, 0)
-}
 
-// Two sums over every word, taken or not; the second weighs each word by its place.
-fn sum(pool: &[u64], used: usize) -> Answer {
-    let mut first: u64 = 0;
-    let mut second: u64 = 0;
-    let mut i = 0;
-    while i < pool.len() {
-        first = wrapping_add_u64(first, pool[i]);
-        second = wrapping_add_u64(second, first);
-        i += 1;
+    fn map(
+        &mut self,
+        vaddr: VirtAddr,
+        size: PageSize,
+        paddr: PhysAddr,
+        flags: MMUFlags,
+    ) -> Result<[u64; 1], Unanswered> {
+        let (base, used) = (self.base, self.used);
+        self.used = page_table::map(self.lent(), base, used, vaddr, paddr, size, flags)?;
+        Ok([0])
     }
-    done(used, 2, first, second, 0)
-}
 
-// What a line does to a pool that is there.
-pub fn made(pool: &mut [u64], base: u64, used: usize, what: Line) -> Answer {
-    match what {
-        Line::Word(index, word) => set_word(pool, used, index, word),
-        Line::Sum => sum(pool, used),
-        Line::Map(vaddr, size, paddr, flags) => mapped(
-            page_table::map(pool, base, used, vaddr, paddr, size, flags),
+    fn map_cont(
+        &mut self,
+        vaddr: VirtAddr,
+        len: u64,
+        paddr: PhysAddr,
+        flags: MMUFlags,
+    ) -> Result<[u64; 1], Unanswered> {
+        let (base, used) = (self.base, self.used);
+        self.used = generic_page_table::map_cont(
+            self.lent(),
+            base,
             used,
-        ),
-        Line::Unmap(vaddr) => unmap(pool, base, used, vaddr),
-        Line::Update(vaddr, paddr, flags) => update(pool, base, used, vaddr, paddr, flags),
-        Line::Query(vaddr) => query(pool, base, used, vaddr),
-        Line::MapCont(vaddr, size, paddr, flags) => mapped(
-            generic_page_table::map_cont(pool, base, used, vaddr, size, paddr, flags),
-            used,
-        ),
-        Line::UnmapCont(vaddr, size) => unmap_cont(pool, base, used, vaddr, size),
-        Line::New(_, _, _) => unreadable(used),
-        Line::Dump => unreadable(used),
-        Line::Space(_) => unreadable(used),
-        Line::Unreadable => unreadable(used),
+            vaddr,
+            len,
+            paddr,
+            flags,
+        )?;
+        Ok([0])
     }
-}
 
-fn number<W: Write>(out: &mut W, n: u64) -> io::Result<()> {
-    trace_output::byte(out, b' ')?;
-    trace_output::hex(out, n)
-}
+    fn unmap_cont(&mut self, vaddr: VirtAddr, len: u64) -> Result<[u64; 1], Unanswered> {
+        let (base, used) = (self.base, self.used);
+        let taken = generic_page_table::unmap_cont(self.lent(), base, used, vaddr, len)?;
+        self.used = used.wrapping_add(taken);
+        Ok([taken as u64])
+    }
 
-pub fn count<W: Write>(out: &mut W, n: u64) -> io::Result<()> {
-    trace_output::byte(out, b' ')?;
-    trace_output::decimal(out, n)
+    // Index and value of each word of the taken frames that is not 0.
+    fn dump<W: Write>(&self, out: &mut W) -> io::Result<()> {
+        code(out, 0)?;
+        let taken = self.frames.min(MOST_FRAMES).min(self.used) * FRAME_WORDS;
+        for (index, word) in self.words[..taken].iter().enumerate() {
+            if *word != 0 {
+                number(out, index as u64)?;
+                number(out, *word)?;
+            }
+        }
+        finish(out, self.used)
+    }
+
+    // Does what the line says and writes its answer.
+    pub fn answer<W: Write>(&mut self, on: OnPool, out: &mut W) -> io::Result<()> {
+        match on {
+            OnPool::New { base, frames, used } => {
+                self.renew(base, frames, used);
+                write_values(out, &[0], used)
+            }
+            OnPool::Word { index, value } => {
+                write_answer(out, self.set_word(index, value), self.used)
+            }
+            OnPool::Dump => self.dump(out),
+            OnPool::Sum => write_values(out, &self.sums(), self.used),
+            OnPool::Map {
+                vaddr,
+                size,
+                paddr,
+                flags,
+            } => write_answer(out, self.map(vaddr, size, paddr, flags), self.used),
+            OnPool::Unmap(vaddr) => write_answer(out, self.unmap(vaddr), self.used),
+            OnPool::Update {
+                vaddr,
+                paddr,
+                flags,
+            } => write_answer(out, self.update(vaddr, paddr, flags), self.used),
+            OnPool::Query(vaddr) => write_answer(out, self.query(vaddr), self.used),
+            OnPool::MapCont {
+                vaddr,
+                len,
+                paddr,
+                flags,
+            } => write_answer(out, self.map_cont(vaddr, len, paddr, flags), self.used),
+            OnPool::UnmapCont { vaddr, len } => {
+                write_answer(out, self.unmap_cont(vaddr, len), self.used)
+            }
+        }
+    }
 }
 
 // The end of an answer: the frames in use.
-pub fn finish<W: Write>(out: &mut W, used: usize) -> io::Result<()> {
-    count(out, used as u64)?;
+pub fn finish<W: Write>(out: &mut W, used: usize) -> io::Result<()>
+    ensures { OnOk result (Appends (W.contents out.old) (W.contents out.new) (finished used)) }
+{
+    code(out, used as u64)?;
     trace_output::byte(out, b'\n')
 }
 
-fn write_values<W: Write>(out: &mut W, answer: Answer) -> io::Result<()> {
-    number(out, answer.a)?;
-    if answer.many < 2 {
-        return Ok(());
-    }
-    number(out, answer.b)?;
-    if answer.many < 3 {
-        return Ok(());
-    }
-    number(out, answer.c)
-}
-
-pub fn write_answer<W: Write>(out: &mut W, answer: Answer) -> io::Result<()> {
-    count(out, answer.number)?;
-    write_values(out, answer)?;
-    finish(out, answer.used)
-}
-
-fn write_word<W: Write>(out: &mut W, index: usize, word: u64) -> io::Result<()> {
-    if word == 0 {
-        return Ok(());
-    }
-    number(out, index as u64)?;
-    number(out, word)
-}
-
-// Index and value of each word that is not 0.
-pub fn write_words<W: Write>(out: &mut W, words: &[u64]) -> io::Result<()> {
-    let mut i = 0;
-    while i < words.len() {
-        write_word(out, i, words[i])?;
-        i += 1;
-    }
-    Ok(())
-}
-
-// How many words so many frames have, and no more than there are.
-pub fn words_of(frames: usize, words: &[u64]) -> usize
-    ensures { result ≤ length words.now }
+pub fn write_values<W: Write>(out: &mut W, values: &[u64], used: usize) -> io::Result<()>
+    ensures { OnOk result (Appends (W.contents out.old) (W.contents out.new) (told (Ok values.now) used)) }
 {
-    if frames <= words.len() / FRAME_WORDS {
-        return frames * FRAME_WORDS;
-    }
-    words.len()
+    code(out, 0)?;
+    numbers(out, values)?;
+    finish(out, used)
 }
 
-pub fn zero(words: &mut [u64]) {
-    let mut i = 0;
-    while i < words.len() {
-        words[i] = 0;
-        i += 1;
+// The value is 0.
+pub fn write_unanswered<W: Write>(out: &mut W, why: Unanswered, used: usize) -> io::Result<()>
+    ensures { OnOk result (Appends (W.contents out.old) (W.contents out.new) (told (Err why) used)) }
+{
+    let number = why.number();
+    writeln!(out, " {number} 0 {used}")
+}
+
+pub fn write_answer<W: Write, const N: usize>(
+    out: &mut W,
+    answer: Result<[u64; N], Unanswered>,
+    used: usize,
+) -> io::Result<()>
+    ensures { OnOk result (Appends (W.contents out.old) (W.contents out.new) (told answer.entry used)) }
+{
+    match answer {
+        Ok(values) => write_values(out, &values, used),
+        Err(why) => write_unanswered(out, why, used),
     }
 }

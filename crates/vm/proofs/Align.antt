@@ -1,7 +1,7 @@
 -- What multiples and rounding mean.
 use Rattle.std.proofs.Common.{◌≡◌, ℕ, ◌+◌, ◌-◌, ◌*◌, ◌/◌, ◌%◌, ◌^◌, ◌<◌, ◌≤◌, Bool, true, false, eqb, refl, ap, ◌∙◌, mod-lt, mod-eq_of_lt, div-add-mod', arith, eqb-true}
-use native.Mathlib.Nat.{mul-mod_left}
-use borrow.Author.Tests.{eqb-false}
+use Rattle.std.proofs.Math.Nat.{mul-mod_left}
+use Rattle.std.proofs.lemmas.Bool.{eqb-false}
 use Rattle.paging.specs.Choice.{Decided}
 use Rattle.vm.specs.Align.{multiple, needed, Rounding}
 

@@ -5,9 +5,8 @@ ghost use Rattle.std.specs.Prelude.{◌≡◌, ◌-◌, ◌*◌, ◌%◌};
 ghost use Rattle.vm.specs.Align.{multiple, needed};
 
 use common::defs::PAGE_SIZE;
-use std::num::wrapping_add_u64;
 
-// Whether `x` is a multiple of `PAGE_SIZE`.
+// Whether `x` is a multiple of `PAGE_SIZE`. The Rust has a name for each of these, over `check_aligned` and `ceil`.
 pub fn page_aligned(x: u64) -> bool
     ensures { result ≡ multiple x 4096 }
 {
@@ -18,10 +17,7 @@ pub fn page_aligned(x: u64) -> bool
 pub fn check_aligned(x: u64, align: u64) -> bool
     ensures { result ≡ multiple x align }
 {
-    if align == 0 {
-        return x == 0;
-    }
-    x % align == 0
+    x.is_multiple_of(align)
 }
 
 // How many pages the `size` needs.
@@ -38,7 +34,7 @@ pub fn ceil(x: u64, align: u64) -> u64
     if align == 0 {
         return 0;
     }
-    wrapping_add_u64(x, align - 1) / align
+    x.wrapping_add(align - 1) / align
 }
 
 // `size` rounded up to a multiple of `PAGE_SIZE`.

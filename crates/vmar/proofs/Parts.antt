@@ -1,4 +1,5 @@
 -- The calls by what their tests show.
+use Rattle.std.specs.Prelude.{Err}
 use Prim.Native.Nat.{ℕ, ◌/◌}
 use mathlib.Core.Path.{◌≡◌}
 use mathlib.Core.Bool.{true, false}
@@ -8,15 +9,14 @@ use Rattle.refusal.specs.declared.Refusal.TheVariants.{BadState, BadHandle}
 use Rattle.space.specs.declared.Space.{Space}
 use Rattle.vmar_offset.specs.Offset.{slot_of}
 use Rattle.vmar_lookup.specs.Lookup.{mapping_flags, vaddr_flags}
-use Rattle.vmar_lookup.specs.declared.FlagsResult.TheVariants as flags
 use Rattle.vmar.specs.Calls.{flags_call, vaddr_call}
 
 module _ (s : Space) (f : List ℕ) (id x : ℕ) where
-  pub flags_unissued : ltb id s.nextid ≡ false → flags.Refused BadHandle ≡ flags_call s f id x
+  pub flags_unissued : ltb id s.nextid ≡ false → Err BadHandle ≡ flags_call s f id x
   unfolding flags_call
   flags_unissued h = rw h
 
-  pub flags_dead : ltb id s.nextid ≡ true → eqb (slot_of s id) 32 ≡ true → flags.Refused BadState ≡ flags_call s f id x
+  pub flags_dead : ltb id s.nextid ≡ true → eqb (slot_of s id) 32 ≡ true → Err BadState ≡ flags_call s f id x
   unfolding flags_call
   flags_dead h d = rw (h, d)
 
@@ -25,11 +25,11 @@ module _ (s : Space) (f : List ℕ) (id x : ℕ) where
   flags_alive r e h d = rw (h, d, e)
 
 module _ (s : Space) (p : List ℕ) (base id x : ℕ) where
-  pub vaddr_unissued : ltb id s.nextid ≡ false → flags.Refused BadHandle ≡ vaddr_call s p base id x
+  pub vaddr_unissued : ltb id s.nextid ≡ false → Err BadHandle ≡ vaddr_call s p base id x
   unfolding vaddr_call
   vaddr_unissued h = rw h
 
-  pub vaddr_dead : ltb id s.nextid ≡ true → eqb (slot_of s id) 32 ≡ true → flags.Refused BadState ≡ vaddr_call s p base id x
+  pub vaddr_dead : ltb id s.nextid ≡ true → eqb (slot_of s id) 32 ≡ true → Err BadState ≡ vaddr_call s p base id x
   unfolding vaddr_call
   vaddr_dead h d = rw (h, d)
 

@@ -1,4 +1,5 @@
 -- What a call on a space tells is told of one outcome alone, so that a promise fixes the outcome itself.
+use Rattle.std.specs.Prelude.{Ok, Err, Option}
 use Prim.Native.Nat.{ℕ, ◌/◌}
 use mathlib.Core.Path.{refl, sym, ap}
 use mathlib.Core.Bool.{Bool}
@@ -10,62 +11,55 @@ use Rattle.refusal.proofs.Replies.{same_refusal, same_values, never}
 use Rattle.form.specs.Form.{Good}
 use Rattle.space.specs.Passes.{Passes}
 use Rattle.space.specs.declared.Space.{Space}
-use Rattle.vmar_offset.specs.declared.Offset.{Offset}
 use Rattle.vmar_allocate.specs.Allocate.{allocated}
 use Rattle.vmar_allocate.specs.Allocate as allocate
-use Rattle.vmar_allocate.specs.declared.Allocation.{Allocation}
-use Rattle.vmar_allocate.specs.declared.AllocateResult.TheVariants as region
+use Rattle.vmar_allocate.specs.Allocate.{Allocation}
 use Rattle.vmar_map.specs.Map.{MapDone, mapped}
 use Rattle.vmar_map.specs.Map as map
-use Rattle.vmar_map.specs.declared.MapExtResult.TheVariants as ext
-use Rattle.vmar_lookup.specs.declared.FlagsResult.TheVariants as flags
 use Rattle.vmar_overwrite.specs.Overwrite.{OverwriteDone}
 use Rattle.vmar_overwrite.specs.Overwrite as over
 use Rattle.vmar_protect.specs.Protect.{lent, protected}
 use Rattle.vmar_protect.specs.Protect as protect
-use Rattle.vmar_protect.specs.declared.ProtectResult.TheVariants as rights
 use Rattle.vmar_unmap.specs.Unmap.{State, CutDone}
 use Rattle.vmar_unmap.specs.Unmap as cut
-use Rattle.vmar_unmap.specs.declared.CutResult.TheVariants as gone
-use Rattle.vmar_user_range.specs.declared.UserRangeResult.TheVariants as user
 use Rattle.vmar.specs.Replies.{allocate_reply, map_reply, flags_reply, user_range_reply, cut_reply, protect_reply}
 use Rattle.vmar.specs.Calls.{ProtectedDone, kept, map_ext, allocate_told, flags_told, user_range_told, ext_told, map_told, cut_told, protect_told, Ordered, bad_space, bad_table, done, before, AllocateFits, MapFits, MapExtFits, CutFits, ProtectFits}
 
 allocate_reply_lem : OneToOne allocate_reply
-allocate_reply_lem (region.Region a) (region.Region b) e = ap region.Region (head-eq_of_cons-eq (same_values e))
-allocate_reply_lem (region.Region a) (region.Refused r) e = never r e
-allocate_reply_lem (region.Refused r) (region.Region a) e = never r (sym e)
-allocate_reply_lem (region.Refused r) (region.Refused q) e = ap region.Refused (same_refusal r q e)
+allocate_reply_lem (Ok a) (Ok b) e = ap Ok (head-eq_of_cons-eq (same_values e))
+allocate_reply_lem (Ok a) (Err r) e = never r e
+allocate_reply_lem (Err r) (Ok a) e = never r (sym e)
+allocate_reply_lem (Err r) (Err q) e = ap Err (same_refusal r q e)
 
 map_reply_lem : OneToOne map_reply
-map_reply_lem (ext.Mapped a) (ext.Mapped b) e = ap ext.Mapped (head-eq_of_cons-eq (same_values e))
-map_reply_lem (ext.Mapped a) (ext.Refused r) e = never r e
-map_reply_lem (ext.Refused r) (ext.Mapped a) e = never r (sym e)
-map_reply_lem (ext.Refused r) (ext.Refused q) e = ap ext.Refused (same_refusal r q e)
+map_reply_lem (Ok a) (Ok b) e = ap Ok (head-eq_of_cons-eq (same_values e))
+map_reply_lem (Ok a) (Err r) e = never r e
+map_reply_lem (Err r) (Ok a) e = never r (sym e)
+map_reply_lem (Err r) (Err q) e = ap Err (same_refusal r q e)
 
 flags_reply_lem : OneToOne flags_reply
-flags_reply_lem (flags.Flags f) (flags.Flags g) e = let v = head-eq_of_cons-eq (same_values e) in λ i. flags.Flags (record { 0 = v i })
-flags_reply_lem (flags.Flags f) (flags.Refused r) e = never r e
-flags_reply_lem (flags.Refused r) (flags.Flags f) e = never r (sym e)
-flags_reply_lem (flags.Refused r) (flags.Refused q) e = ap flags.Refused (same_refusal r q e)
+flags_reply_lem (Ok f) (Ok g) e = let v = head-eq_of_cons-eq (same_values e) in λ i. Ok (record { 0 = v i })
+flags_reply_lem (Ok f) (Err r) e = never r e
+flags_reply_lem (Err r) (Ok f) e = never r (sym e)
+flags_reply_lem (Err r) (Err q) e = ap Err (same_refusal r q e)
 
 user_reply : OneToOne user_range_reply
-user_reply user.Allowed user.Allowed e = refl
-user_reply user.Allowed (user.Refused r) e = never r e
-user_reply (user.Refused r) user.Allowed e = never r (sym e)
-user_reply (user.Refused r) (user.Refused q) e = ap user.Refused (same_refusal r q e)
+user_reply (Ok _) (Ok _) e = refl
+user_reply (Ok _) (Err r) e = never r e
+user_reply (Err r) (Ok _) e = never r (sym e)
+user_reply (Err r) (Err q) e = ap Err (same_refusal r q e)
 
 cut_reply_lem : OneToOne cut_reply
-cut_reply_lem gone.Done gone.Done e = refl
-cut_reply_lem gone.Done (gone.Refused r) e = never r e
-cut_reply_lem (gone.Refused r) gone.Done e = never r (sym e)
-cut_reply_lem (gone.Refused r) (gone.Refused q) e = ap gone.Refused (same_refusal r q e)
+cut_reply_lem (Ok _) (Ok _) e = refl
+cut_reply_lem (Ok _) (Err r) e = never r e
+cut_reply_lem (Err r) (Ok _) e = never r (sym e)
+cut_reply_lem (Err r) (Err q) e = ap Err (same_refusal r q e)
 
 protect_reply_lem : OneToOne protect_reply
-protect_reply_lem rights.Protected rights.Protected e = refl
-protect_reply_lem rights.Protected (rights.Refused r) e = never r e
-protect_reply_lem (rights.Refused r) rights.Protected e = never r (sym e)
-protect_reply_lem (rights.Refused r) (rights.Refused q) e = ap rights.Refused (same_refusal r q e)
+protect_reply_lem (Ok _) (Ok _) e = refl
+protect_reply_lem (Ok _) (Err r) e = never r e
+protect_reply_lem (Err r) (Ok _) e = never r (sym e)
+protect_reply_lem (Err r) (Err q) e = ap Err (same_refusal r q e)
 
 pub allocate_once : OneToOne allocate_told
 allocate_once a b e = λ i. record { result = allocate_reply_lem a.result b.result (λ j. (e j).reply) i; space = (e i).after }
@@ -100,7 +94,7 @@ ordered_by f once no12 no13 does out (done p q e) = done p q (once out does e)
 
 -- what the promises say of an outcome itself
 module _ (s : Space) (f : List ℕ) where
-  module _ (id : ℕ) (o : Offset) (len flags align : ℕ) (out : Allocation) where
+  module _ (id : ℕ) (o : Option ℕ) (len flags align : ℕ) (out : Allocation) where
     abbrev pub AllocateIs : Type 0
     AllocateIs = Answered (Passes s f) (allocate.refused s BadSpace) (allocated s id o len flags align) out
 
@@ -108,7 +102,7 @@ module _ (s : Space) (f : List ℕ) where
     allocate_is = answered_by allocate_told allocate_once (allocate.refused s BadSpace) (allocated s id o len flags align) out
 
   module _ (p : List ℕ) (base used : ℕ) where
-    module _ (id : ℕ) (o : Offset) (vmo vmo-len at len permissions flags : ℕ) where
+    module _ (id : ℕ) (o : Option ℕ) (vmo vmo-len at len permissions flags : ℕ) where
       abbrev pub MapIs : Bool → MapDone → Type 0
       MapIs faults out = Ordered (Passes s f) (Good p base used) (map.refused s f BadSpace) (map.refused s f BadTable) (mapped s f id o vmo vmo-len at len permissions flags faults) out
 

@@ -1,4 +1,7 @@
 -- What a call answers on a space that passes its check and a good pool: the laws of its core, read off its promise.
+use Rattle.std.specs.Prelude.{Result}
+use Rattle.refusal.specs.declared.Refusal.{Refusal}
+use Rattle.common.specs.declared.defs.MMUFlags.{MMUFlags}
 use Prim.Native.Nat.{ℕ, ◌/◌, ◌≤◌, ◌<◌}
 use mathlib.Core.Path.{◌≡◌, refl, sym, subst}
 use mathlib.Core.Bool.{true}
@@ -16,14 +19,13 @@ use Rattle.table.specs.Table.{queried}
 use Rattle.vmar_offset.specs.Offset.{slot_of}
 use Rattle.vmar_offset.proofs.Found.{slot_live}
 use Rattle.vmar_allocate.specs.Allocate.{allocated}
-use Rattle.vmar_allocate.specs.declared.Allocation.{Allocation}
+use Rattle.vmar_allocate.specs.Allocate.{Allocation}
 use Rattle.vmar_map.specs.Map.{MapDone, mapped}
 use Rattle.vmar_laws.specs.Answers.{AllocateAnswers, MapAnswers}
 use Rattle.vmar_laws.proofs.Allocates.{allocates}
 use Rattle.vmar_laws.proofs.Maps.{maps}
 use Rattle.vmar_lookup.specs.Laws.{FlagsAnswers, of_page}
 use Rattle.vmar_lookup.specs.Lookup.{answered}
-use Rattle.vmar_lookup.specs.declared.FlagsResult.{FlagsResult}
 use Rattle.vmar_lookup.proofs.Laws.{lookups}
 use Rattle.vmar_overwrite.specs.Overwrite.{OverwriteDone}
 use Rattle.vmar_overwrite_laws.specs.Answers.{OverwriteAnswers}
@@ -56,7 +58,7 @@ done_is p q (bad_table r n e) = absurd (n q)
 done_is p q (done r t e) = e
 
 -- a lookup by an id, given what it answers in a region that lives
-by_id : (s : Space) (id x : ℕ) (value : ℕ → FlagsResult) (y : FlagsResult)
+by_id : (s : Space) (id x : ℕ) (value : ℕ → (Result MMUFlags Refusal)) (y : Result MMUFlags Refusal)
     → (s.nextid ≤ id → LookupAnswers s id x value y)
     → (id < s.nextid → slot_of s id ≡ 32 → LookupAnswers s id x value y)
     → (id < s.nextid → slot_of s id < 32 → is_region s (slot_of s id) ≡ true → (slot_of s id ≡ 32 → ⊥) → LookupAnswers s id x value y)
@@ -83,7 +85,7 @@ mapping_flags_lem s f id x out p fits =
 vaddr_flags_lem : (s : Space) (f p : List ℕ) (base used id x : ℕ) (out : FlagsDone) → Passes s f → Good p base used → VaddrFits s f p base used id x out
     → LookupAnswers s id x (λ m. answered (queried p (base / 4096) x)) out.result
 vaddr_flags_lem s f p base used id x out pass good fits =
-    let value : ℕ → FlagsResult = λ m. answered (queried p (base / 4096) x) in
+    let value : ℕ → (Result MMUFlags Refusal) = λ m. answered (queried p (base / 4096) x) in
     subst (λ (d : FlagsDone). LookupAnswers s id x value d.result) (sym (flags_once out (looked s (vaddr_call s p base id x)) (done_is pass good fits)))
     (by_id s id x value (vaddr_call s p base id x)
     (λ l. unissued l (sym (vaddr_unissued s p base id x (le-ltb id s.nextid l))))

@@ -2,24 +2,18 @@
 // calls its core; a refused call changes nothing. The Rust's `self` is a region; here it is the space, and the region goes by its id.
 #![tactic(auto)]
 
-ghost use Rattle.std.specs.Prelude.{◌≡◌, true, false, ◌/◌};
+ghost use Rattle.std.specs.Prelude.{◌≡◌, true, false};
 ghost use Rattle.form.specs.Form.{Good};
 ghost use Rattle.space.specs.Passes.{Passes, Passing};
 ghost use Rattle.vmar_overwrite.specs.Overwrite as over;
 ghost use Rattle.vmar_root.specs.Root.{new_space};
-ghost use Rattle.vmar.specs.Calls.{AllocateFits, MapFits, flags_call, FlagsFit, UserRangeFits, vaddr_call, VaddrFits, map_ext, MapExtFits, UnmapFits, ClearFits, ProtectFits};
+ghost use Rattle.vmar_unmap.specs.Unmap.{state};
+ghost use Rattle.vmar.specs.Calls.{Checked, AllocateFits, MapFits, flags_call, FlagsFit, UserRangeFits, vaddr_call, VaddrFits, map_ext, MapExtFits, UnmapFits, ClearFits, ProtectFits};
 
 use common::defs::{MMUFlags, VirtAddr, VmarFlags};
 use refusal::Refusal;
-use space::{NO_REGION, Space};
-use vmar_allocate::AllocateResult;
-use vmar_lookup::FlagsResult;
-use vmar_map::{MapExtResult, Vmo};
-use vmar_offset::Offset;
-use vmar_overwrite::OverwriteOutcome;
-use vmar_protect::ProtectResult;
-use vmar_unmap::CutResult;
-use vmar_user_range::UserRangeResult;
+use space::Space;
+use vmar_map::{MapArgs, Vmo};
 
 // A space with the calls on it.
 #[derive(Clone, Copy)]
@@ -27,106 +21,80 @@ pub struct AddressSpace {
     pub space: Space,
 }
 
-// The answer of a call beside the new space.
+// The answer of a call beside the new space, which it took: document 01's form for calls on a space.
 #[derive(Clone, Copy)]
-pub struct Allocated {
-    pub result: AllocateResult,
-    pub space: AddressSpace,
-}
-
-#[derive(Clone, Copy)]
-pub struct Mapped {
-    pub result: MapExtResult,
-    pub space: AddressSpace,
-}
-
-#[derive(Clone, Copy)]
-pub struct FlagsFound {
-    pub result: FlagsResult,
-    pub space: AddressSpace,
-}
-
-#[derive(Clone, Copy)]
-pub struct UserRangeChecked {
-    pub result: UserRangeResult,
+pub struct Answer<T> {
+    pub result: Result<T, Refusal>,
     pub space: AddressSpace,
 }
 
 // With the frames in use.
 #[derive(Clone, Copy)]
-pub struct MappedOver {
-    pub result: MapExtResult,
+pub struct Changed<T> {
+    pub result: Result<T, Refusal>,
     pub space: AddressSpace,
     pub used: usize,
 }
 
-#[derive(Clone, Copy)]
-pub struct Cut {
-    pub result: CutResult,
-    pub space: AddressSpace,
-    pub used: usize,
+// What is tested first of a call that takes the table: 12, then 13. One that does not take it tests 12 alone.
+fn check(s: &Space, flags: &[u8], pool: &[u64], base: u64, used: usize) -> Result<(), Refusal>
+    ensures { Checked (Passes s.now flags.now) (Good pool.now base used) result }
+{
+    if !space_check::is_good(s, flags) {
+        return Err(Refusal::BadSpace);
+    }
+    if !form::is_good(pool, base, used) {
+        return Err(Refusal::BadTable);
+    }
+    Ok(())
 }
 
-#[derive(Clone, Copy)]
-pub struct Protected {
-    pub result: ProtectResult,
-    pub space: AddressSpace,
-}
-
-fn flags_in(s: Space, flags: &[u8], id: u64, vaddr: VirtAddr) -> FlagsResult
-    requires { Passes s flags.now }
-    ensures { result ≡ flags_call s flags.now id vaddr }
+#[tactic(auto, using(std::proofs::lemmas::Bool::Decides::nat_tests), unfolding(crate::specs::Calls::flags_call))]
+fn flags_in(s: &Space, flags: &[u8], id: u64, vaddr: VirtAddr) -> Result<MMUFlags, Refusal>
+    requires { Passes s.now flags.now }
+    ensures { result ≡ flags_call s.now flags.now id vaddr }
 {
     if s.nextid <= id {
-        return FlagsResult::Refused(Refusal::BadHandle);
+        return Err(Refusal::BadHandle);
     }
-    let r = vmar_offset::slot_of(s, id);
-    if r == NO_REGION {
-        return FlagsResult::Refused(Refusal::BadState);
-    }
+    let r = vmar_offset::slot_of(s, id).ok_or(Refusal::BadState)?;
     vmar_lookup::get_mapping_flags(s, flags, r, vaddr)
 }
 
+#[tactic(auto, using(std::proofs::lemmas::Bool::Decides::nat_tests), unfolding(crate::specs::Calls::vaddr_call))]
 fn vaddr_flags_in(
-    s: Space,
+    s: &Space,
     pool: &[u64],
     base: u64,
     used: usize,
     id: u64,
     vaddr: VirtAddr,
-) -> FlagsResult
-    requires { Passing s × Good pool.now base used }
-    ensures { result ≡ vaddr_call s pool.now base id vaddr }
+) -> Result<MMUFlags, Refusal>
+    requires { Passing s.now × Good pool.now base used }
+    ensures { result ≡ vaddr_call s.now pool.now base id vaddr }
 {
     if s.nextid <= id {
-        return FlagsResult::Refused(Refusal::BadHandle);
+        return Err(Refusal::BadHandle);
     }
-    let r = vmar_offset::slot_of(s, id);
-    if r == NO_REGION {
-        return FlagsResult::Refused(Refusal::BadState);
-    }
+    let r = vmar_offset::slot_of(s, id).ok_or(Refusal::BadState)?;
     vmar_lookup::get_vaddr_flags(s, pool, base, used, r, vaddr)
 }
 
 // `map_ext` on a space and a pool that pass their checks: what stands there is replaced or refuses the call.
 fn map_ext_in(
-    s: Space,
+    s: &mut Space,
     pages: &mut [u8],
     pool: &mut [u64],
     base: u64,
-    used: usize,
+    used: &mut usize,
     id: u64,
-    offset: Offset,
-    vmo: Vmo,
-    vmo_offset: u64,
-    len: u64,
-    permissions: MMUFlags,
-    flags: MMUFlags,
+    offset: Option<u64>,
+    m: MapArgs,
     overwrite: bool,
     allow_faults: bool,
-) -> OverwriteOutcome
-    requires { Passes s pages.old × Good pool.old base used }
-    ensures { over.done result pages.new pool.new ≡ map_ext base (record { space = s; flags = pages.old; pool = pool.old; used = used }) id offset vmo.id vmo.len vmo_offset len permissions.0 flags.0 overwrite allow_faults }
+) -> Result<VirtAddr, Refusal>
+    requires { Passes s.old pages.old × Good pool.old base used.old }
+    ensures { over.done result s.new pages.new pool.new used.new ≡ map_ext base (state s.old pages.old pool.old used.old) id offset m.vmo.id m.vmo.len m.vmo_offset m.len m.permissions.0 m.flags.0 overwrite allow_faults }
 {
     if overwrite {
         return vmar_overwrite::map_overwrite(
@@ -137,33 +105,11 @@ fn map_ext_in(
             used,
             id,
             offset,
-            vmo,
-            vmo_offset,
-            len,
-            permissions,
-            flags,
+            m,
             allow_faults,
         );
     }
-    let a = vmar_map::map(
-        s,
-        pages,
-        id,
-        offset,
-        vmo,
-        vmo_offset,
-        len,
-        permissions,
-        flags,
-        allow_faults,
-    );
-    let result = a.result;
-    let out = a.space;
-    OverwriteOutcome {
-        result: result,
-        space: out,
-        used: used,
-    }
+    vmar_map::map(s, pages, id, offset, m, allow_faults)
 }
 
 impl AddressSpace {
@@ -171,111 +117,100 @@ impl AddressSpace {
     pub fn new_root() -> AddressSpace
         ensures { result.space ≡ new_space 0x200000 0x7fffffdff000 }
     {
-        let s = vmar_root::new_root();
-        AddressSpace { space: s }
+        AddressSpace {
+            space: vmar_root::new_root(),
+        }
     }
 
     // A kernel root. The caller zeroes the page flags.
     pub fn new_kernel() -> AddressSpace
         ensures { result.space ≡ new_space 0xffffff0200000000 0x8000000000 }
     {
-        let s = vmar_root::new_kernel();
-        AddressSpace { space: s }
+        AddressSpace {
+            space: vmar_root::new_kernel(),
+        }
     }
 
     // A child of the region, at the offset or where there is room.
     pub fn allocate(
-        self,
+        mut self,
         flags: &[u8],
         region: u64,
-        offset: Offset,
+        offset: Option<u64>,
         len: u64,
         region_flags: VmarFlags,
         align: u64,
-    ) -> Allocated
+    ) -> Answer<u64>
         ensures { AllocateFits self.space flags.now region offset len region_flags.0 align (record { result = result.result; space = result.space.space }) }
     {
-        let s = self.space;
-        if !space_check::is_good(s, flags) {
-            let no = AllocateResult::Refused(Refusal::BadSpace);
-            return Allocated {
-                result: no,
+        if !space_check::is_good(&self.space, flags) {
+            return Answer {
+                result: Err(Refusal::BadSpace),
                 space: self,
             };
         }
-        let a = vmar_allocate::allocate(s, region, offset, len, region_flags, align);
-        let result = a.result;
-        let out = a.space;
-        let space = AddressSpace { space: out };
-        Allocated {
-            result: result,
-            space: space,
+        let result = vmar_allocate::allocate(
+            &mut self.space,
+            region,
+            offset,
+            len,
+            region_flags,
+            align,
+        );
+        Answer {
+            result,
+            space: self,
         }
     }
 
     // The half of `map_ext` that never overwrites: a mapping of the VMO in the region, at the offset or where there is room. The table keeps its entries.
     pub fn map(
-        self,
+        mut self,
         pages: &mut [u8],
         pool: &[u64],
         base: u64,
         used: usize,
         region: u64,
-        offset: Offset,
+        offset: Option<u64>,
         vmo: Vmo,
         vmo_offset: u64,
         len: u64,
         permissions: MMUFlags,
         flags: MMUFlags,
         allow_faults: bool,
-    ) -> Mapped
+    ) -> Answer<VirtAddr>
         ensures { MapFits self.space pages.old pool.now base used region offset vmo.id vmo.len vmo_offset len permissions.0 flags.0 allow_faults (record { result = result.result; space = result.space.space; flags = pages.new }) }
     {
-        let s = self.space;
-        if !space_check::is_good(s, pages) {
-            let no = MapExtResult::Refused(Refusal::BadSpace);
-            return Mapped {
-                result: no,
+        if let Err(why) = check(&self.space, pages, pool, base, used) {
+            return Answer {
+                result: Err(why),
                 space: self,
             };
         }
-        if !form::is_good(pool, base, used) {
-            let no = MapExtResult::Refused(Refusal::BadTable);
-            return Mapped {
-                result: no,
-                space: self,
-            };
-        }
-        let a = vmar_map::map(
-            s,
-            pages,
-            region,
-            offset,
+        let m = MapArgs {
             vmo,
             vmo_offset,
             len,
             permissions,
             flags,
-            allow_faults,
-        );
-        let result = a.result;
-        let out = a.space;
-        let space = AddressSpace { space: out };
-        Mapped {
-            result: result,
-            space: space,
+        };
+        let result = vmar_map::map(&mut self.space, pages, region, offset, m, allow_faults);
+        Answer {
+            result,
+            space: self,
         }
     }
 
     // A mapping of the VMO in the region, at the offset or where there is room; what stands there is replaced if so asked. No page is mapped in the table.
+    // The parameters are the Rust's.
     pub fn map_ext(
-        self,
+        mut self,
         pages: &mut [u8],
         pool: &mut [u64],
         base: u64,
-        used: usize,
+        mut used: usize,
         region: u64,
-        offset: Offset,
+        offset: Option<u64>,
         vmo: Vmo,
         vmo_offset: u64,
         len: u64,
@@ -283,68 +218,55 @@ impl AddressSpace {
         flags: MMUFlags,
         overwrite: bool,
         allow_faults: bool,
-    ) -> MappedOver
+    ) -> Changed<VirtAddr>
         ensures { MapExtFits self.space pages.old pool.old base used region offset vmo.id vmo.len vmo_offset len permissions.0 flags.0 overwrite allow_faults (record { result = result.result; state = record { space = result.space.space; flags = pages.new; pool = pool.new; used = result.used } }) }
     {
-        let s = self.space;
-        if !space_check::is_good(s, pages) {
-            let no = MapExtResult::Refused(Refusal::BadSpace);
-            return MappedOver {
-                result: no,
+        if let Err(why) = check(&self.space, pages, pool, base, used) {
+            return Changed {
+                result: Err(why),
                 space: self,
-                used: used,
+                used,
             };
         }
-        if !form::is_good(pool, base, used) {
-            let no = MapExtResult::Refused(Refusal::BadTable);
-            return MappedOver {
-                result: no,
-                space: self,
-                used: used,
-            };
-        }
-        let a = map_ext_in(
-            s,
-            pages,
-            pool,
-            base,
-            used,
-            region,
-            offset,
+        let m = MapArgs {
             vmo,
             vmo_offset,
             len,
             permissions,
             flags,
+        };
+        let result = map_ext_in(
+            &mut self.space,
+            pages,
+            pool,
+            base,
+            &mut used,
+            region,
+            offset,
+            m,
             overwrite,
             allow_faults,
         );
-        let result = a.result;
-        let out = a.space;
-        let after = a.used;
-        let space = AddressSpace { space: out };
-        MappedOver {
-            result: result,
-            space: space,
-            used: after,
+        Changed {
+            result,
+            space: self,
+            used,
         }
     }
 
     // The flags that the mapping over the address gives its page, whether or not the table holds it.
-    pub fn get_mapping_flags(self, flags: &[u8], region: u64, vaddr: VirtAddr) -> FlagsFound
+    pub fn get_mapping_flags(self, flags: &[u8], region: u64, vaddr: VirtAddr) -> Answer<MMUFlags>
         ensures { FlagsFit self.space flags.now region vaddr (record { result = result.result; space = result.space.space }) }
     {
-        let s = self.space;
-        if !space_check::is_good(s, flags) {
-            let no = FlagsResult::Refused(Refusal::BadSpace);
-            return FlagsFound {
-                result: no,
+        if !space_check::is_good(&self.space, flags) {
+            return Answer {
+                result: Err(Refusal::BadSpace),
                 space: self,
             };
         }
-        let result = flags_in(s, flags, region, vaddr);
-        FlagsFound {
-            result: result,
+        let result = flags_in(&self.space, flags, region, vaddr);
+        Answer {
+            result,
             space: self,
         }
     }
@@ -358,27 +280,18 @@ impl AddressSpace {
         used: usize,
         region: u64,
         vaddr: VirtAddr,
-    ) -> FlagsFound
+    ) -> Answer<MMUFlags>
         ensures { VaddrFits self.space flags.now pool.now base used region vaddr (record { result = result.result; space = result.space.space }) }
     {
-        let s = self.space;
-        if !space_check::is_good(s, flags) {
-            let no = FlagsResult::Refused(Refusal::BadSpace);
-            return FlagsFound {
-                result: no,
+        if let Err(why) = check(&self.space, flags, pool, base, used) {
+            return Answer {
+                result: Err(why),
                 space: self,
             };
         }
-        if !form::is_good(pool, base, used) {
-            let no = FlagsResult::Refused(Refusal::BadTable);
-            return FlagsFound {
-                result: no,
-                space: self,
-            };
-        }
-        let result = vaddr_flags_in(s, pool, base, used, region, vaddr);
-        FlagsFound {
-            result: result,
+        let result = vaddr_flags_in(&self.space, pool, base, used, region, vaddr);
+        Answer {
+            result,
             space: self,
         }
     }
@@ -391,63 +304,98 @@ impl AddressSpace {
         addr: VirtAddr,
         len: u64,
         access: MMUFlags,
-    ) -> UserRangeChecked
+    ) -> Answer<()>
         ensures { UserRangeFits self.space flags.now region addr len access.0 (record { result = result.result; space = result.space.space }) }
     {
-        let s = self.space;
-        if !space_check::is_good(s, flags) {
-            let no = UserRangeResult::Refused(Refusal::BadSpace);
-            return UserRangeChecked {
-                result: no,
+        if !space_check::is_good(&self.space, flags) {
+            return Answer {
+                result: Err(Refusal::BadSpace),
                 space: self,
             };
         }
-        let result = vmar_user_range::check_user_range(s, flags, region, addr, len, access);
-        UserRangeChecked {
-            result: result,
+        let result = vmar_user_range::check_user_range(
+            &self.space,
+            flags,
+            region,
+            addr,
+            len,
+            access,
+        );
+        Answer {
+            result,
             space: self,
         }
     }
 
     // Unmaps what lies in the range of the region, and destroys its children within it.
     pub fn unmap(
-        self,
+        mut self,
         pages: &mut [u8],
         pool: &mut [u64],
         base: u64,
-        used: usize,
+        mut used: usize,
         region: u64,
         addr: VirtAddr,
         len: u64,
-    ) -> Cut
+    ) -> Changed<()>
         ensures { UnmapFits self.space pages.old pool.old base used region addr len (record { result = result.result; state = record { space = result.space.space; flags = pages.new; pool = pool.new; used = result.used } }) }
     {
-        let s = self.space;
-        if !space_check::is_good(s, pages) {
-            let no = CutResult::Refused(Refusal::BadSpace);
-            return Cut {
-                result: no,
+        if let Err(why) = check(&self.space, pages, pool, base, used) {
+            return Changed {
+                result: Err(why),
                 space: self,
-                used: used,
+                used,
             };
         }
-        if !form::is_good(pool, base, used) {
-            let no = CutResult::Refused(Refusal::BadTable);
-            return Cut {
-                result: no,
+        let result = vmar_unmap::unmap(
+            &mut self.space,
+            pages,
+            pool,
+            base,
+            &mut used,
+            region,
+            addr,
+            len,
+        );
+        Changed {
+            result,
+            space: self,
+            used,
+        }
+    }
+
+    // Unmaps all of the region and destroys all below it, and the region too if it goes itself.
+    fn clear_with(
+        mut self,
+        pages: &mut [u8],
+        pool: &mut [u64],
+        base: u64,
+        mut used: usize,
+        region: u64,
+        is_itself: bool,
+    ) -> Changed<()>
+        ensures { ClearFits self.space pages.old pool.old base used region is_itself (record { result = result.result; state = record { space = result.space.space; flags = pages.new; pool = pool.new; used = result.used } }) }
+    {
+        if let Err(why) = check(&self.space, pages, pool, base, used) {
+            return Changed {
+                result: Err(why),
                 space: self,
-                used: used,
+                used,
             };
         }
-        let a = vmar_unmap::unmap(s, pages, pool, base, used, region, addr, len);
-        let result = a.result;
-        let out = a.space;
-        let after = a.used;
-        let space = AddressSpace { space: out };
-        Cut {
-            result: result,
-            space: space,
-            used: after,
+        let result = vmar_unmap::clear(
+            &mut self.space,
+            pages,
+            pool,
+            base,
+            &mut used,
+            region,
+            is_itself,
+        );
+        Changed {
+            result,
+            space: self,
+            used,
         }
     }
 
@@ -459,36 +407,10 @@ impl AddressSpace {
         base: u64,
         used: usize,
         region: u64,
-    ) -> Cut
+    ) -> Changed<()>
         ensures { ClearFits self.space pages.old pool.old base used region true (record { result = result.result; state = record { space = result.space.space; flags = pages.new; pool = pool.new; used = result.used } }) }
     {
-        let s = self.space;
-        if !space_check::is_good(s, pages) {
-            let no = CutResult::Refused(Refusal::BadSpace);
-            return Cut {
-                result: no,
-                space: self,
-                used: used,
-            };
-        }
-        if !form::is_good(pool, base, used) {
-            let no = CutResult::Refused(Refusal::BadTable);
-            return Cut {
-                result: no,
-                space: self,
-                used: used,
-            };
-        }
-        let a = vmar_unmap::clear(s, pages, pool, base, used, region, true);
-        let result = a.result;
-        let out = a.space;
-        let after = a.used;
-        let space = AddressSpace { space: out };
-        Cut {
-            result: result,
-            space: space,
-            used: after,
-        }
+        self.clear_with(pages, pool, base, used, region, true)
     }
 
     // Unmaps all of the region and destroys all below it.
@@ -499,36 +421,10 @@ impl AddressSpace {
         base: u64,
         used: usize,
         region: u64,
-    ) -> Cut
+    ) -> Changed<()>
         ensures { ClearFits self.space pages.old pool.old base used region false (record { result = result.result; state = record { space = result.space.space; flags = pages.new; pool = pool.new; used = result.used } }) }
     {
-        let s = self.space;
-        if !space_check::is_good(s, pages) {
-            let no = CutResult::Refused(Refusal::BadSpace);
-            return Cut {
-                result: no,
-                space: self,
-                used: used,
-            };
-        }
-        if !form::is_good(pool, base, used) {
-            let no = CutResult::Refused(Refusal::BadTable);
-            return Cut {
-                result: no,
-                space: self,
-                used: used,
-            };
-        }
-        let a = vmar_unmap::clear(s, pages, pool, base, used, region, false);
-        let result = a.result;
-        let out = a.space;
-        let after = a.used;
-        let space = AddressSpace { space: out };
-        Cut {
-            result: result,
-            space: space,
-            used: after,
-        }
+        self.clear_with(pages, pool, base, used, region, false)
     }
 
     // Changes the rights of the pages in the range.
@@ -542,27 +438,28 @@ impl AddressSpace {
         addr: VirtAddr,
         len: u64,
         flags: MMUFlags,
-    ) -> Protected
+    ) -> Answer<()>
         ensures { ProtectFits self.space pages.old pool.old base used region addr len flags.0 (record { space = result.space.space; done = record { result = result.result; flags = pages.new; pool = pool.new } }) }
     {
-        let s = self.space;
-        if !space_check::is_good(s, pages) {
-            let no = ProtectResult::Refused(Refusal::BadSpace);
-            return Protected {
-                result: no,
+        if let Err(why) = check(&self.space, pages, pool, base, used) {
+            return Answer {
+                result: Err(why),
                 space: self,
             };
         }
-        if !form::is_good(pool, base, used) {
-            let no = ProtectResult::Refused(Refusal::BadTable);
-            return Protected {
-                result: no,
-                space: self,
-            };
-        }
-        let result = vmar_protect::protect(s, pages, pool, base, used, region, addr, len, flags);
-        Protected {
-            result: result,
+        let result = vmar_protect::protect(
+            &self.space,
+            pages,
+            pool,
+            base,
+            used,
+            region,
+            addr,
+            len,
+            flags,
+        );
+        Answer {
+            result,
             space: self,
         }
     }

@@ -1,17 +1,11 @@
 -- `allocate` by what its tests show.
-use Prim.Native.Nat.{ℕ, ◌-◌, ◌^◌}
-use mathlib.Core.Path.{◌≡◌}
-use mathlib.Core.Bool.{true, false}
-use lib.Dec.{ltb, eqb}
+use Rattle.std.proofs.Common.{◌≡◌, ℕ, ◌-◌, ◌^◌, true, false, ltb, eqb, Option, Ok}
 use Rattle.common.specs.Flags.{known_region}
 use Rattle.refusal.specs.declared.Refusal.TheVariants.{InvalidArgs, BadState, NoSlot, BadHandle}
 use Rattle.space.specs.Space.{with_region}
 use Rattle.space.specs.declared.Space.{Space}
 use Rattle.vmar_offset.specs.Offset.{slot_of, free_region, determine_offset}
-use Rattle.vmar_offset.specs.declared.Offset.{Offset}
-use Rattle.vmar_allocate.specs.Allocate.{refused, child, placed, settled, allocated}
-use Rattle.vmar_allocate.specs.declared.AllocateResult.TheVariants as result
-use Rattle.vmar_allocate.specs.declared.Allocation.{Allocation}
+use Rattle.vmar_allocate.specs.Allocate.{done, refused, child, placed, settled, allocated}
 
 module _ (s : Space) (r off len flags : ℕ) where
   pub no_slot : eqb (free_region s) 32 ≡ true → refused s NoSlot ≡ placed s r off len flags
@@ -23,11 +17,11 @@ module _ (s : Space) (r off len flags : ℕ) where
   no_id e l = rw (e, l)
 
   pub made : (i : ℕ) → free_region s ≡ i → eqb (free_region s) 32 ≡ false → ltb s.nextid (2 ^ 32 - 1) ≡ true
-      → ◌≡◌ {A = Allocation} (record { result = result.Region s.nextid; space = with_region s i (child s r off len flags) }) (placed s r off len flags)
+      → done (Ok s.nextid) (with_region s i (child s r off len flags)) ≡ placed s r off len flags
   unfolding placed
   made i f e l = rw (e, l, f)
 
-module _ (s : Space) (id : ℕ) (o : Offset) (len flags align : ℕ) where
+module _ (s : Space) (id : ℕ) (o : Option ℕ) (len flags align : ℕ) where
   pub never_issued : ltb id s.nextid ≡ false → refused s BadHandle ≡ allocated s id o len flags align
   unfolding allocated
   never_issued h = rw h
@@ -42,7 +36,6 @@ module _ (s : Space) (id : ℕ) (o : Offset) (len flags align : ℕ) where
       unfolding allocated
       dead d = rw (h, k, d)
 
-      pub alive : eqb (slot_of s id) 32 ≡ false
-          → settled s (slot_of s id) len flags (determine_offset s (slot_of s id) o len align) ≡ allocated s id o len flags align
+      pub alive : (r : ℕ) → slot_of s id ≡ r → eqb (slot_of s id) 32 ≡ false → settled s r len flags (determine_offset s r o len align) ≡ allocated s id o len flags align
       unfolding allocated
-      alive d = rw (h, k, d)
+      alive r e d = rw (h, k, d, e)

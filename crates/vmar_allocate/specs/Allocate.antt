@@ -1,6 +1,6 @@
 -- `allocate` on a space that passes its check: its refusals in document 01's order ("11, unknown flag bits (1), .. then the Rust's own order, then 10"), then the
 -- new child. "Region ids count up from 0 (the root) and never come back within a space; 2^32 − 1 is never issued"; "the lowest free one first".
-use Rattle.std.specs.Prelude.{ℕ, ◌+◌, ◌-◌, ◌^◌, true, ltb, eqb}
+use Rattle.std.specs.Prelude.{ℕ, ◌+◌, ◌-◌, ◌^◌, true, ltb, eqb, Option, Result, Ok, Err}
 use Rattle.paging.specs.Choice.{pick}
 use Rattle.common.specs.Flags.{known_region}
 use Rattle.refusal.specs.declared.Refusal.{Refusal}
@@ -9,15 +9,18 @@ use Rattle.space.specs.Space.{region_at, with_region}
 use Rattle.space.specs.declared.Region.{Region}
 use Rattle.space.specs.declared.Space.{Space}
 use Rattle.vmar_offset.specs.Offset.{slot_of, free_region, determine_offset}
-use Rattle.vmar_offset.specs.declared.Offset.{Offset}
-use Rattle.vmar_offset.specs.declared.OffsetResult.{OffsetResult}
-use Rattle.vmar_offset.specs.declared.OffsetResult.TheVariants as offset
-use Rattle.vmar_allocate.specs.declared.AllocateResult.TheVariants as result
-use Rattle.vmar_allocate.specs.declared.Allocation.{Allocation}
+
+-- the new region's id, or why there is none; and the space afterwards
+pub record Allocation : Type 0 where
+  pub result : Result ℕ Refusal
+  pub space : Space
+
+abbrev pub done : Result ℕ Refusal → Space → Allocation
+done x s = record { result = x; space = s }
 
 -- a refusal changes nothing
 abbrev pub refused : Space → Refusal → Allocation
-refused s why = record { result = result.Refused why; space = s }
+refused s why = done (Err why) s
 
 -- the child of region r at this offset
 abbrev pub child : Space → ℕ → ℕ → ℕ → ℕ → Region
@@ -29,15 +32,15 @@ placed s r off len flags =
     pick (eqb (free_region s) 32)
     (refused s NoSlot)
     (pick (ltb s.nextid (2 ^ 32 - 1))
-    (record { result = result.Region s.nextid; space = with_region s (free_region s) (child s r off len flags) })
+    (done (Ok s.nextid) (with_region s (free_region s) (child s r off len flags)))
     (refused s NoSlot))
 
 -- at the offset that was found
-abbrev pub settled : Space → ℕ → ℕ → ℕ → OffsetResult → Allocation
-settled s r len flags (offset.Ok off) = placed s r off len flags
-settled s r len flags (offset.Refused why) = refused s why
+abbrev pub settled : Space → ℕ → ℕ → ℕ → Result ℕ Refusal → Allocation
+settled s r len flags (Ok off) = placed s r off len flags
+settled s r len flags (Err why) = refused s why
 
-unfoldable pub allocated : Space → ℕ → Offset → ℕ → ℕ → ℕ → Allocation
+unfoldable pub allocated : Space → ℕ → Option ℕ → ℕ → ℕ → ℕ → Allocation
 allocated s id o len flags align =
     pick (ltb id s.nextid)
     (pick (known_region flags)

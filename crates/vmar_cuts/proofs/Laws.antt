@@ -1,4 +1,5 @@
 -- The laws of a region call's cuts, and what they leave of the table.
+use Rattle.std.specs.Prelude.{Err}
 use Prim.Native.Nat.{ℕ, ◌+◌, ◌-◌, ◌*◌, ◌/◌, ◌≤◌, ◌<◌, min, max}
 use mathlib.Core.Path.{◌≡◌, refl, sym, ap, subst}
 use mathlib.Core.List.{List}
@@ -8,7 +9,6 @@ use Rattle.paging.proofs.Cases.{below?}
 use Rattle.form.specs.Form.{Good}
 use Rattle.refusal.specs.declared.Refusal.TheVariants.{NotMapped}
 use Rattle.table.specs.Table.{queried}
-use Rattle.table.specs.declared.QueryResult.TheVariants as query
 use Rattle.table_split.specs.Split.{Tables}
 use Rattle.table_unmap_cont.specs.Demand.{free}
 use Rattle.space.specs.Space.{mapping_at}
@@ -94,7 +94,7 @@ module _ {s : Space} {flags : List ℕ} (p : Passes s flags) where
       C : AllCut q base used (unmap_cuts s r b e) t
       C = cuts.holds q base used (unmap_cuts s r b e) G (unmap r b e R).fits room
 
-      cut_page : (i v : ℕ) → Lies s i v → (mapping_at s i).region ≡ r → b ≤ v → v < e → queried t.pool (base / 4096) v ≡ query.Refused NotMapped
+      cut_page : (i v : ℕ) → Lies s i v → (mapping_at s i).region ≡ r → b ≤ v → v < e → queried t.pool (base / 4096) v ≡ Err NotMapped
       unfolding part
       cut_page i v L z l h =
           let x = L.2 in
@@ -102,7 +102,7 @@ module _ {s : Space} {flags : List ℕ} (p : Passes s flags) where
           let m = meets_of (mapping_at s i) r b (e - b) (record { live = L.1; own = z; from = omega arith; to = omega arith }) in
           C.inside v (part (mapping_at s i) b e) ((unmap r b e R).own i L.0 L.1 m) (omega arith) (omega arith)
 
-      dropped_page : (i v : ℕ) → Lies s i v → Doomed s r b e (mapping_at s i).region → queried t.pool (base / 4096) v ≡ query.Refused NotMapped
+      dropped_page : (i v : ℕ) → Lies s i v → Doomed s r b e (mapping_at s i).region → queried t.pool (base / 4096) v ≡ Err NotMapped
       dropped_page i v L D =
           let x = L.2 in
           let y = L.3 in

@@ -3,6 +3,7 @@ use Prim.Native.Nat.{ℕ, zero, suc, ◌+◌, ◌-◌, ◌%◌, ◌^◌, ◌≤�
 use mathlib.Core.Path.{◌≡◌, refl, sym, ◌∙◌, ap, subst}
 use mathlib.Core.Bool.{true, false}
 use mathlib.Core.List.{List, [], ◌∷◌}
+use Rattle.std.proofs.Common.{Some}
 use mathlib.Core.Logic.{inl, inr, ⊎_elim}
 use native.Mathlib.Omega.{arith}
 use lib.Dec.{eqb}
@@ -18,10 +19,12 @@ use Rattle.space.specs.declared.Space.{Space}
 use Rattle.space.proofs.Facts.{region_place_lem, mapping_place_lem, child_in, mapping_in}
 use Rattle.space.proofs.Ranges.{apart, apart_of}
 use Rattle.vmar_offset.specs.Offset.{mapping_meets}
-use Rattle.table_split.specs.Split.{Tables}
-use Rattle.table_cuts.specs.Cuts.{Cut, Fits, cut_one, cut_all, non_empty}
-use Rattle.table_cuts.proofs.Append.{cut_none, cut_single, count_none, count_single}
+use Rattle.vmar_offset.specs.Offset as offset
+use Rattle.table_cuts.specs.Cuts.{Fits, non_empty}
+use Rattle.table_cuts.proofs.Append.{count_single}
 use Rattle.vmar_cuts.specs.Cuts.{whole, part, part_of, PageRange}
+use Rattle.vmar_cuts.specs.Parts.{cut_of, cuts_of}
+use Rattle.vmar_cuts.specs.declared.Extent.{Extent}
 
 -- two ranges that overlap: each begins before the other ends
 pub overlaps : (a n b m : ℕ) → overlap a n b m ≡ true → (a < b + m) × (b < a + n)
@@ -42,7 +45,7 @@ pub record Meets (m : Mapping) (r b n : ℕ) : Type 0 where
   pub to : b < m.addr + m.size
 
 pub meets : (m : Mapping) (r b n : ℕ) → mapping_meets m r b n ≡ true → Meets m r b n
-unfolding mapping_meets
+unfolding offset.meets
 meets m r b n e =
     ⊎_elim
     (λ (l : m.live ≡ true). ⊎_elim
@@ -55,7 +58,7 @@ meets m r b n e =
     (tell m.live)
 
 pub meets_of : (m : Mapping) (r b n : ℕ) → Meets m r b n → mapping_meets m r b n ≡ true
-unfolding mapping_meets
+unfolding offset.meets
 meets_of m r b n k = simp (k.live, eq-eqb m.region r k.own, overlap_of m.addr m.size b n k.from k.to)
 
 -- the end of a mapping that fits is a number of 64 bits
@@ -112,39 +115,12 @@ module _ (m : Mapping) (r b e : ℕ) where
   unfolding part_of
   part_none k = rw k
 
-  pub cut_passed : (n : ℕ) (t : Tables) → mapping_meets m r b (e - b) ≡ false → t ≡ cut_all n (part_of m r b e) t
-  cut_passed n t k = sym (ap (λ (xs : List Cut). cut_all n xs t) (part_none k) ∙ cut_none n t)
+  -- how many are not empty, by the code's part
+  pub count_empty : (p : Extent) → cuts_of (Some p) ≡ part_of m r b e → p.len ≡ 0 → non_empty (part_of m r b e) ≡ 0
+  count_empty p is z = sym (ap non_empty is) ∙ count_single (cut_of p) ∙ rw (eq-eqb p.len 0 z)
 
-  pub cut_met : (n x y : ℕ) (t u : Tables) → mapping_meets m r b (e - b) ≡ true → x ≡ max m.addr b → y ≡ min (m.addr + m.size) e
-      → u ≡ cut_one n (record { addr = x; len = y - x }) t → u ≡ cut_all n (part_of m r b e) t
-  unfolding part
-  cut_met n x y t u k ex ey h =
-      h
-      ∙ ap (λ (z : ℕ). cut_one n (record { addr = z; len = y - z }) t) ex
-      ∙ ap (λ (z : ℕ). cut_one n (record { addr = max m.addr b; len = z - max m.addr b }) t) ey
-      ∙ sym (ap (λ (xs : List Cut). cut_all n xs t) (part_of_lem k) ∙ cut_single n (part m b e) t)
-
-  pub fits_met : (x y : ℕ) → Fits (part m b e) → x ≡ max m.addr b → y ≡ min (m.addr + m.size) e → Fits (record { addr = x; len = y - x })
-  unfolding part
-  fits_met x y F ex ey =
-      subst (λ (z : ℕ). Fits (record { addr = z; len = y - z })) (sym ex)
-      (subst (λ (z : ℕ). Fits (record { addr = max m.addr b; len = z - max m.addr b })) (sym ey) F)
-
-  -- how many are not empty
-  pub count_passed : mapping_meets m r b (e - b) ≡ false → non_empty (part_of m r b e) ≡ 0
-  count_passed k = ap non_empty (part_none k) ∙ count_none
-
-  pub count_empty : (x y : ℕ) → mapping_meets m r b (e - b) ≡ true → x ≡ max m.addr b → y ≡ min (m.addr + m.size) e → y ≤ x → non_empty (part_of m r b e) ≡ 0
-  unfolding part
-  count_empty x y k ex ey l =
-      let z = eq-eqb (min (m.addr + m.size) e - max m.addr b) 0 (omega arith) in
-      ap non_empty (part_of_lem k) ∙ count_single (part m b e) ∙ rw z
-
-  pub count_some : (x y : ℕ) → mapping_meets m r b (e - b) ≡ true → x ≡ max m.addr b → y ≡ min (m.addr + m.size) e → x < y → non_empty (part_of m r b e) ≡ 1
-  unfolding part
-  count_some x y k ex ey l =
-      let z = ne_eqb (min (m.addr + m.size) e - max m.addr b) 0 (λ q. omega arith) in
-      ap non_empty (part_of_lem k) ∙ count_single (part m b e) ∙ rw z
+  pub count_some : (p : Extent) → cuts_of (Some p) ≡ part_of m r b e → (p.len ≡ 0 → ⊥) → non_empty (part_of m r b e) ≡ 1
+  count_some p is some = sym (ap non_empty is) ∙ count_single (cut_of p) ∙ rw (ne_eqb p.len 0 some)
 
 -- a root range lies in one half of the addresses, and so does each region below it: by its place, since a parent stands before its children
 root_within : (a n : ℕ) → RootRange a n → Within 4 a (a + n)

@@ -3,12 +3,12 @@
 -- where inside is what a mapping held.
 --
 -- In this order: what a cut is a cut of, both ways, for unmap and for destroy; what is left of the table; the theorem.
+use Rattle.std.specs.Prelude.{Err}
 use Rattle.std.specs.Prelude.{ℕ, ◌+◌, ◌-◌, ◌*◌, ◌/◌, ◌≤◌, ◌<◌, ◌≡◌, true, List, [], ◌∷◌, ◌⊎◌}
 use Rattle.paging.specs.Level.{Canonical}
 use Rattle.form.specs.Form.{Good}
 use Rattle.refusal.specs.declared.Refusal.TheVariants.{NotMapped}
 use Rattle.table.specs.Table.{queried}
-use Rattle.table.specs.declared.QueryResult.TheVariants as query
 use Rattle.table_split.specs.Split.{Tables}
 use Rattle.table_unmap_cont.specs.Demand.{free, answered}
 use Rattle.space.specs.Space.{region_at, mapping_at, is_region, is_mapping}
@@ -82,8 +82,8 @@ Lies s i v = (i < 64) × (is_mapping s i ≡ true) × ((mapping_at s i).addr ≤
 pub record UnmapLeaves (s : Space) (r b e : ℕ) (p : List ℕ) (base used : ℕ) (t : Tables) : Type 0 where
   pub all : AllCut p base used (unmap_cuts s r b e) t
   -- no page that was cut or dropped has a frame any more
-  pub cut : (i v : ℕ) → Lies s i v → (mapping_at s i).region ≡ r → b ≤ v → v < e → queried t.pool (base / 4096) v ≡ query.Refused NotMapped
-  pub dropped : (i v : ℕ) → Lies s i v → Doomed s r b e (mapping_at s i).region → queried t.pool (base / 4096) v ≡ query.Refused NotMapped
+  pub cut : (i v : ℕ) → Lies s i v → (mapping_at s i).region ≡ r → b ≤ v → v < e → queried t.pool (base / 4096) v ≡ Err NotMapped
+  pub dropped : (i v : ℕ) → Lies s i v → Doomed s r b e (mapping_at s i).region → queried t.pool (base / 4096) v ≡ Err NotMapped
   -- every other address keeps its frame and rights
   pub kept : (v : ℕ) → Canonical 4 v → ((i : ℕ) → Lies s i v → (mapping_at s i).region ≡ r → b ≤ v → v < e → ⊥)
       → ((i : ℕ) → Lies s i v → Doomed s r b e (mapping_at s i).region → ⊥)
@@ -92,7 +92,7 @@ pub record UnmapLeaves (s : Space) (r b e : ℕ) (p : List ℕ) (base used : ℕ
 -- t is what destroy and clear leave
 pub record DestroyLeaves (s : Space) (r : ℕ) (p : List ℕ) (base used : ℕ) (t : Tables) : Type 0 where
   pub all : AllCut p base used (destroy_cuts s r) t
-  pub dropped : (i v : ℕ) → Lies s i v → Destroyed s r (mapping_at s i).region → queried t.pool (base / 4096) v ≡ query.Refused NotMapped
+  pub dropped : (i v : ℕ) → Lies s i v → Destroyed s r (mapping_at s i).region → queried t.pool (base / 4096) v ≡ Err NotMapped
   pub kept : (v : ℕ) → Canonical 4 v → ((i : ℕ) → Lies s i v → Destroyed s r (mapping_at s i).region → ⊥)
       → answered (queried t.pool (base / 4096) v) ≡ answered (queried p (base / 4096) v)
 

@@ -1,2 +1,3 @@
 pub mod Cuts
+pub mod Parts
 pub mod Laws

@@ -2,232 +2,175 @@
 // space only; the space itself is changed elsewhere. Whether the frames suffice is counted before the first cut, by the same walk.
 #![tactic(auto)]
 
-ghost use Rattle.std.specs.Prelude.{◌≡◌, ◌-◌, ◌*◌, ◌/◌, min, max, leb};
+ghost use Rattle.std.specs.Prelude.{◌≡◌, ◌-◌, ◌*◌, ◌/◌, leb, IfSome};
 ghost use Rattle.form.specs.Form.{Good};
 ghost use Rattle.space.specs.Passes.{Passing};
 ghost use Rattle.table_cuts.specs.Cuts.{Fits, cut_all, non_empty};
-ghost use Rattle.vmar_cuts.specs.Cuts.{whole, part_of, parts, children, unmap_cuts, destroy_cuts, PageRange};
+ghost use Rattle.vmar_cuts.specs.Cuts.{whole, part_of, parts, children, unmap_cuts, destroy_cuts};
+ghost use Rattle.vmar_cuts.specs.Parts.{cut_of, cuts_of};
+
+mod span;
 
 use common::defs::VirtAddr;
-use space::{Mapping, Space};
-use vmar_doom::END;
+use space::{Mapping, REGIONS, Space};
+pub use span::Span;
 
-fn larger(x: u64, y: u64) -> u64
-    ensures { result ≡ max x y }
-{
-    if x < y {
-        return y;
-    }
-    x
+// So many bytes from an address on.
+#[derive(Clone, Copy)]
+pub struct Extent {
+    pub addr: VirtAddr,
+    pub len: u64,
 }
 
-fn smaller(x: u64, y: u64) -> u64
-    ensures { result ≡ min x y }
+// The part of the mapping that lies in the range, if it is a mapping of region r that meets it.
+fn part_of(m: Mapping, r: usize, span: Span) -> Option<Extent>
+    requires { Fits (whole m) }
+    ensures value { cuts_of result ≡ part_of m r span.begin span.end }
+    ensures fits { IfSome result (λ p. Fits (cut_of p)) }
 {
-    if x < y {
-        return x;
+    if !vmar_offset::meets(m, r, span.begin, span.end - span.begin) {
+        return None;
     }
-    y
+    let from = m.addr.max(span.begin);
+    let to = (m.addr + m.size).min(span.end);
+    Some(Extent {
+        addr: from,
+        len: to - from,
+    })
 }
 
-// Cuts the part of the mapping that lies in the range, if it is a mapping of region r that meets it. The answer is the number of frames in use afterwards, here and below.
-fn cut_part(
-    m: Mapping,
-    pool: &mut [u64],
-    base: u64,
-    used: usize,
-    r: usize,
-    begin: VirtAddr,
-    end: VirtAddr,
-) -> usize
-    requires good { Good pool.old base used }
-    requires fits { Fits (whole m) × PageRange begin end }
-    ensures value { record { pool = pool.new; used = result } ≡ cut_all (base / 4096) (part_of m r begin end) (record { pool = pool.old; used = used }) }
-    ensures stays_good { Good pool.new base result }
+// Cuts the mapping's part; `used` counts the frames in use, here and below.
+fn cut_part(m: Mapping, pool: &mut [u64], base: u64, used: &mut usize, r: usize, span: Span)
+    requires good { Good pool.old base used.old }
+    requires fits { Fits (whole m) }
+    ensures value { record { pool = pool.new; used = used.new } ≡ cut_all (base / 4096) (part_of m r span.begin span.end) (record { pool = pool.old; used = used.old }) }
+    ensures stays_good { Good pool.new base used.new }
 {
-    if !vmar_offset::mapping_meets(m, r, begin, end - begin) {
-        return used;
+    if let Some(part) = part_of(m, r, span) {
+        *used = table_cuts::cut_one(pool, base, *used, part.addr, part.len);
     }
-    let from = larger(m.addr, begin);
-    let to = smaller(m.addr + m.size, end);
-    table_cuts::cut_one(pool, base, used, from, to - from)
 }
 
 // Cuts the parts of the mappings of region r that lie in the range, in the order of the list.
-fn cut_parts(
-    s: Space,
-    pool: &mut [u64],
-    base: u64,
-    used: usize,
-    r: usize,
-    begin: VirtAddr,
-    end: VirtAddr,
-) -> usize
-    requires good { Good pool.old base used }
-    requires passing { Passing s × PageRange begin end }
-    ensures value { record { pool = pool.new; used = result } ≡ cut_all (base / 4096) (parts s r begin end) (record { pool = pool.old; used = used }) }
-    ensures stays_good { Good pool.new base result }
+fn cut_parts(s: &Space, pool: &mut [u64], base: u64, used: &mut usize, r: usize, span: Span)
+    requires good { Good pool.old base used.old }
+    requires passing { Passing s.now }
+    ensures value { record { pool = pool.new; used = used.new } ≡ cut_all (base / 4096) (parts s.now r span.begin span.end) (record { pool = pool.old; used = used.old }) }
+    ensures stays_good { Good pool.new base used.new }
 {
-    let list = s.maplist;
-    let mut in_use = used;
-    let mut k = 0;
-    while k < s.mapcount {
-        let slot = list[k];
-        let m = s.mappings[slot];
-        in_use = cut_part(m, pool, base, in_use, r, begin, end);
-        k += 1;
+    for slot in &s.maplist[..s.mapcount] {
+        cut_part(s.mappings[*slot], pool, base, used, r, span);
     }
-    in_use
 }
 
 // Cuts all mappings of the children of region r within the range, each with its own children first, with so much depth left.
 fn destroy_internal(
-    s: Space,
+    s: &Space,
     pool: &mut [u64],
     base: u64,
-    used: usize,
+    used: &mut usize,
     r: usize,
-    begin: VirtAddr,
-    end: VirtAddr,
+    span: Span,
     depth: usize,
-) -> usize
-    requires good { Good pool.old base used }
-    requires passing { Passing s × PageRange begin end }
-    ensures value { record { pool = pool.new; used = result } ≡ cut_all (base / 4096) (children s depth r begin end) (record { pool = pool.old; used = used }) }
-    ensures stays_good { Good pool.new base result }
+)
+    requires good { Good pool.old base used.old }
+    requires passing { Passing s.now }
+    ensures value { record { pool = pool.new; used = used.new } ≡ cut_all (base / 4096) (children s.now depth r span.begin span.end) (record { pool = pool.old; used = used.old }) }
+    ensures stays_good { Good pool.new base used.new }
 {
     if depth == 0 {
-        return used;
+        return;
     }
-    let list = s.reglist;
-    let mut in_use = used;
-    let mut k = 0;
-    while k < s.regcount {
-        let slot = list[k];
-        let g = s.regions[slot];
-        k += 1;
-        if !vmar_doom::is_child_in(g, r, begin, end) {
+    for slot in &s.reglist[..s.regcount] {
+        if !vmar_doom::is_child_in(s.regions[*slot], r, span.begin, span.end) {
             continue;
         }
-        in_use = destroy_internal(s, pool, base, in_use, slot, 0, END, depth - 1);
-        in_use = cut_parts(s, pool, base, in_use, slot, 0, END);
+        destroy_internal(s, pool, base, used, *slot, Span::ALL, depth - 1);
+        cut_parts(s, pool, base, used, *slot, Span::ALL);
     }
-    in_use
 }
 
 // The cuts of unmap and overwrite.
-pub fn unmap_cuts(
-    s: Space,
-    pool: &mut [u64],
-    base: u64,
-    used: usize,
-    r: usize,
-    begin: VirtAddr,
-    end: VirtAddr,
-) -> usize
-    requires good { Good pool.old base used }
-    requires passing { Passing s × PageRange begin end }
-    ensures value { record { pool = pool.new; used = result } ≡ cut_all (base / 4096) (unmap_cuts s r begin end) (record { pool = pool.old; used = used }) }
-    ensures stays_good { Good pool.new base result }
+pub fn unmap_cuts(s: &Space, pool: &mut [u64], base: u64, used: &mut usize, r: usize, span: Span)
+    requires good { Good pool.old base used.old }
+    requires passing { Passing s.now }
+    ensures value { record { pool = pool.new; used = used.new } ≡ cut_all (base / 4096) (unmap_cuts s.now r span.begin span.end) (record { pool = pool.old; used = used.old }) }
+    ensures stays_good { Good pool.new base used.new }
 {
-    let own = cut_parts(s, pool, base, used, r, begin, end);
-    destroy_internal(s, pool, base, own, r, begin, end, 32)
+    cut_parts(s, pool, base, used, r, span);
+    destroy_internal(s, pool, base, used, r, span, REGIONS);
 }
 
 // The cuts of destroy and clear.
-pub fn destroy_cuts(s: Space, pool: &mut [u64], base: u64, used: usize, r: usize) -> usize
-    requires good { Good pool.old base used }
-    requires passing { Passing s }
-    ensures value { record { pool = pool.new; used = result } ≡ cut_all (base / 4096) (destroy_cuts s r) (record { pool = pool.old; used = used }) }
-    ensures stays_good { Good pool.new base result }
+pub fn destroy_cuts(s: &Space, pool: &mut [u64], base: u64, used: &mut usize, r: usize)
+    requires good { Good pool.old base used.old }
+    requires passing { Passing s.now }
+    ensures value { record { pool = pool.new; used = used.new } ≡ cut_all (base / 4096) (destroy_cuts s.now r) (record { pool = pool.old; used = used.old }) }
+    ensures stays_good { Good pool.new base used.new }
 {
-    let below = destroy_internal(s, pool, base, used, r, 0, END, 32);
-    cut_parts(s, pool, base, below, r, 0, END)
+    destroy_internal(s, pool, base, used, r, Span::ALL, REGIONS);
+    cut_parts(s, pool, base, used, r, Span::ALL);
 }
 
+// From here on the cuts are counted, by the same way that makes them. One walk for both would take what it does at each step as a closure, whose clauses would
+// say of the pool and of the room what it gives.
+//
 // The room that the mapping's part leaves: one less, unless there is none to cut. No room stays none, here and below.
-fn room_in_part(m: Mapping, r: usize, begin: VirtAddr, end: VirtAddr, room: usize) -> usize
-    requires { Fits (whole m) × PageRange begin end }
-    ensures { result ≡ room - non_empty (part_of m r begin end) }
+fn room_in_part(m: Mapping, r: usize, span: Span, room: usize) -> usize
+    requires { Fits (whole m) }
+    ensures { result ≡ room - non_empty (part_of m r span.begin span.end) }
 {
-    if !vmar_offset::mapping_meets(m, r, begin, end - begin) {
-        return room;
+    match part_of(m, r, span) {
+        Some(part) if part.len != 0 => room.saturating_sub(1),
+        _ => room,
     }
-    let from = larger(m.addr, begin);
-    let to = smaller(m.addr + m.size, end);
-    if to <= from {
-        return room;
-    }
-    if room == 0 {
-        return 0;
-    }
-    room - 1
 }
 
 // The room that the parts of region r's mappings leave.
-fn room_in_parts(s: Space, r: usize, begin: VirtAddr, end: VirtAddr, room: usize) -> usize
-    requires { Passing s × PageRange begin end }
-    ensures { result ≡ room - non_empty (parts s r begin end) }
+fn room_in_parts(s: &Space, r: usize, span: Span, room: usize) -> usize
+    requires { Passing s.now }
+    ensures { result ≡ room - non_empty (parts s.now r span.begin span.end) }
 {
-    let list = s.maplist;
     let mut left = room;
-    let mut k = 0;
-    while k < s.mapcount {
-        let slot = list[k];
-        let m = s.mappings[slot];
-        left = room_in_part(m, r, begin, end, left);
-        k += 1;
+    for slot in &s.maplist[..s.mapcount] {
+        left = room_in_part(s.mappings[*slot], r, span, left);
     }
     left
 }
 
 // The room that the children within the range leave, with so much depth left.
-fn room_in_children(
-    s: Space,
-    r: usize,
-    begin: VirtAddr,
-    end: VirtAddr,
-    depth: usize,
-    room: usize,
-) -> usize
-    requires { Passing s × PageRange begin end }
-    ensures { result ≡ room - non_empty (children s depth r begin end) }
+fn room_in_children(s: &Space, r: usize, span: Span, depth: usize, room: usize) -> usize
+    requires { Passing s.now }
+    ensures { result ≡ room - non_empty (children s.now depth r span.begin span.end) }
 {
     if depth == 0 {
         return room;
     }
-    let list = s.reglist;
     let mut left = room;
-    let mut k = 0;
-    while k < s.regcount {
-        let slot = list[k];
-        let g = s.regions[slot];
-        k += 1;
-        if !vmar_doom::is_child_in(g, r, begin, end) {
+    for slot in &s.reglist[..s.regcount] {
+        if !vmar_doom::is_child_in(s.regions[*slot], r, span.begin, span.end) {
             continue;
         }
-        left = room_in_children(s, slot, 0, END, depth - 1, left);
-        left = room_in_parts(s, slot, 0, END, left);
+        left = room_in_children(s, *slot, Span::ALL, depth - 1, left);
+        left = room_in_parts(s, *slot, Span::ALL, left);
     }
     left
 }
 
 // Whether there are four free frames for each mapping that unmap and overwrite cut or drop.
-pub fn has_frames_for_unmap(s: Space, r: usize, begin: VirtAddr, end: VirtAddr, free: usize) -> bool
-    requires { Passing s × PageRange begin end }
-    ensures { result ≡ leb (4 * non_empty (unmap_cuts s r begin end)) free }
+pub fn has_frames_for_unmap(s: &Space, r: usize, span: Span, free: usize) -> bool
+    requires { Passing s.now }
+    ensures { result ≡ leb (4 * non_empty (unmap_cuts s.now r span.begin span.end)) free }
 {
-    let own = room_in_parts(s, r, begin, end, free / 4 + 1);
-    let left = room_in_children(s, r, begin, end, 32, own);
-    0 < left
+    let own = room_in_parts(s, r, span, free / 4 + 1);
+    0 < room_in_children(s, r, span, REGIONS, own)
 }
 
 // The same for destroy and clear.
-pub fn has_frames_for_destroy(s: Space, r: usize, free: usize) -> bool
-    requires { Passing s }
-    ensures { result ≡ leb (4 * non_empty (destroy_cuts s r)) free }
+pub fn has_frames_for_destroy(s: &Space, r: usize, free: usize) -> bool
+    requires { Passing s.now }
+    ensures { result ≡ leb (4 * non_empty (destroy_cuts s.now r)) free }
 {
-    let below = room_in_children(s, r, 0, END, 32, free / 4 + 1);
-    let left = room_in_parts(s, r, 0, END, below);
-    0 < left
+    let below = room_in_children(s, r, Span::ALL, REGIONS, free / 4 + 1);
+    0 < room_in_parts(s, r, Span::ALL, below)
 }

@@ -1,1 +1,2 @@
 pub mod Dooms
+pub mod Places

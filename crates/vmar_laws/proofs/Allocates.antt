@@ -1,4 +1,5 @@
 -- What `allocate` does: how a call ends, and the child that an accepted one makes.
+use Rattle.std.specs.Prelude.{Option, None, Result, Ok, Err}
 use Prim.Native.Nat.{ℕ, ◌+◌, ◌-◌, ◌^◌, ◌<◌}
 use mathlib.Core.Path.{◌≡◌, refl, sym, ◌∙◌, ap, subst}
 use mathlib.Core.Bool.{true, false}
@@ -17,15 +18,9 @@ use Rattle.space.specs.declared.Region.{Region}
 use Rattle.space.specs.declared.Space.{Space}
 use Rattle.space.proofs.Facts.{region_room}
 use Rattle.vmar_offset.specs.Offset.{slot_of, is_free_region, free_region, determine_offset}
-use Rattle.vmar_offset.specs.declared.Offset.{Offset}
-use Rattle.vmar_offset.specs.declared.Offset.TheVariants as asked
-use Rattle.vmar_offset.specs.declared.OffsetResult.{OffsetResult}
-use Rattle.vmar_offset.specs.declared.OffsetResult.TheVariants as offset
 use Rattle.vmar_offset.proofs.Found.{slot_live, free_region_lem, determined_free}
 use Rattle.vmar_allocate.specs.Allocate.{refused, child, settled, allocated}
-use Rattle.vmar_allocate.specs.declared.AllocateResult.{AllocateResult}
-use Rattle.vmar_allocate.specs.declared.AllocateResult.TheVariants as result
-use Rattle.vmar_allocate.specs.declared.Allocation.{Allocation}
+use Rattle.vmar_allocate.specs.Allocate.{Allocation}
 use Rattle.vmar_allocate.proofs.Allocates.{no_slot, no_id, made, never_issued, unknown, dead, alive}
 use Rattle.space.specs.Arrays.{Arrays}
 use Rattle.vmar_laws.specs.Later.{Later}
@@ -39,20 +34,20 @@ use Rattle.vmar_laws.proofs.Answers.{allocate_answers, allocate_only}
 use Rattle.vmar_laws.proofs.Child.{Born, child_passes, child_arrays}
 
 -- what an accepted call has shown
-record Shown (s : Space) (id : ℕ) (o : Offset) (len flags align off : ℕ) : Type 0 where
+record Shown (s : Space) (id : ℕ) (o : Option ℕ) (len flags align off : ℕ) : Type 0 where
   known : known_region flags ≡ true
   live : slot_of s id ≡ 32 → ⊥
-  at : determine_offset s (slot_of s id) o len align ≡ offset.Ok off
+  at : determine_offset s (slot_of s id) o len align ≡ Ok off
   free : free_region s ≡ 32 → ⊥
   next : s.nextid < 2 ^ 32 - 1
 
 -- how a call ends: refused, with 3 only by the search, or with the child
-data Ends (s : Space) (id : ℕ) (o : Offset) (len flags align : ℕ) : Allocation → Type 0 where
-  refusal : (why : Refusal) → (why ≡ NoMemory → determine_offset s (slot_of s id) o len align ≡ offset.Refused NoMemory) → Ends s id o len flags align (refused s why)
+data Ends (s : Space) (id : ℕ) (o : Option ℕ) (len flags align : ℕ) : Allocation → Type 0 where
+  refusal : (why : Refusal) → (why ≡ NoMemory → determine_offset s (slot_of s id) o len align ≡ Err NoMemory) → Ends s id o len flags align (refused s why)
   accepts : (off : ℕ) → Shown s id o len flags align off
-      → Ends s id o len flags align (record { result = result.Region s.nextid; space = with_region s (free_region s) (child s (slot_of s id) off len flags) })
+      → Ends s id o len flags align (record { result = Ok s.nextid; space = with_region s (free_region s) (child s (slot_of s id) off len flags) })
 
-module _ (s : Space) (id : ℕ) (o : Offset) (len flags align : ℕ) where
+module _ (s : Space) (id : ℕ) (o : Option ℕ) (len flags align : ℕ) where
   -- a refusal that is not 3
   other : (why : Refusal) → (why ≡ NoMemory → ◌≡◌ {A = ℕ} 0 1) → (out : Allocation) → refused s why ≡ out → Ends s id o len flags align out
   other why n out e = subst (Ends s id o len flags align) e (refusal why (λ q. let z = n q in absurd (omega arith)))
@@ -63,16 +58,16 @@ module _ (s : Space) (id : ℕ) (o : Offset) (len flags align : ℕ) where
       (λ (h : ltb id s.nextid ≡ true). ⊎_elim
       (λ (k : known_region flags ≡ true). ⊎_elim
       (λ (d : eqb (slot_of s id) 32 ≡ true). other BadState (λ q. cc) _ (dead s id o len flags align h k d))
-      (λ (d : eqb (slot_of s id) 32 ≡ false). subst (Ends s id o len flags align) (alive s id o len flags align h k d) (settles k (eqb-false _ _ d) _ refl))
+      (λ (d : eqb (slot_of s id) 32 ≡ false). subst (Ends s id o len flags align) (alive s id o len flags align h k (slot_of s id) refl d) (settles k (eqb-false _ _ d) _ refl))
       (tell (eqb (slot_of s id) 32)))
       (λ (k : known_region flags ≡ false). other InvalidArgs (λ q. cc) _ (unknown s id o len flags align h k))
       (tell (known_region flags)))
       (λ (h : ltb id s.nextid ≡ false). other BadHandle (λ q. cc) _ (never_issued s id o len flags align h))
       (tell (ltb id s.nextid))
     where
-      settles : known_region flags ≡ true → (slot_of s id ≡ 32 → ⊥) → (d : OffsetResult) → determine_offset s (slot_of s id) o len align ≡ d
+      settles : known_region flags ≡ true → (slot_of s id ≡ 32 → ⊥) → (d : Result ℕ Refusal) → determine_offset s (slot_of s id) o len align ≡ d
           → Ends s id o len flags align (settled s (slot_of s id) len flags d)
-      settles k l (offset.Ok off) e =
+      settles k l (Ok off) e =
           ⊎_elim
           (λ (f : eqb (free_region s) 32 ≡ true). other NoSlot (λ q. cc) _ (no_slot s (slot_of s id) off len flags f))
           (λ (f : eqb (free_region s) 32 ≡ false). ⊎_elim
@@ -82,22 +77,22 @@ module _ (s : Space) (id : ℕ) (o : Offset) (len flags align : ℕ) where
           (λ (n : ltb s.nextid (2 ^ 32 - 1) ≡ false). other NoSlot (λ q. cc) _ (no_id s (slot_of s id) off len flags f n))
           (tell (ltb s.nextid (2 ^ 32 - 1))))
           (tell (eqb (free_region s) 32))
-      settles k l (offset.Refused why) e = refusal why (λ q. e ∙ ap (λ (w : Refusal). offset.Refused w) q)
+      settles k l (Err why) e = refusal why (λ q. e ∙ ap (λ (w : Refusal). Err w) q)
 
-  region_refused : {A : Type 0} {n : ℕ} {why : Refusal} → ◌≡◌ {A = AllocateResult} (result.Region n) (result.Refused why) → A
+  region_refused : {A : Type 0} {n : ℕ} {why : Refusal} → ◌≡◌ {A = Result ℕ Refusal} (Ok n) (Err why) → A
   region_refused e = let z : ◌≡◌ {A = ℕ} 0 1 = cc in absurd (omega arith)
 
-  same_region : {a b : ℕ} → ◌≡◌ {A = AllocateResult} (result.Region a) (result.Region b) → a ≡ b
+  same_region : {a b : ℕ} → ◌≡◌ {A = Result ℕ Refusal} (Ok a) (Ok b) → a ≡ b
   same_region e = cc
 
-  same_why : {a b : Refusal} → ◌≡◌ {A = AllocateResult} (result.Refused a) (result.Refused b) → a ≡ b
+  same_why : {a b : Refusal} → ◌≡◌ {A = Result ℕ Refusal} (Err a) (Err b) → a ≡ b
   same_why e = cc
 
-  nothing_changes : {out : Allocation} → Ends s id o len flags align out → (why : Refusal) → out.result ≡ result.Refused why → out.space ≡ s
+  nothing_changes : {out : Allocation} → Ends s id o len flags align out → (why : Refusal) → out.result ≡ Err why → out.space ≡ s
   nothing_changes (refusal w n) why e = refl
   nothing_changes (accepts off k) why e = region_refused e
 
-  nowhere_free : {out : Allocation} → Ends s id o len flags align out → out.result ≡ result.Refused NoMemory → (o ≡ asked.None) × NoFit s (slot_of s id) len align
+  nowhere_free : {out : Allocation} → Ends s id o len flags align out → out.result ≡ Err NoMemory → (o ≡ None) × NoFit s (slot_of s id) len align
   nowhere_free (refusal w n) e = no_memory s (slot_of s id) len align o (n (same_why e))
   nowhere_free (accepts off k) e = region_refused e
 
@@ -172,7 +167,7 @@ module _ (s : Space) (id : ℕ) (o : Offset) (len flags align : ℕ) where
     }
 
   module _ (pages : List ℕ) (arrays : Arrays s) (p : Passes s pages) where
-    accepts_child : {out : Allocation} → Ends s id o len flags align out → (n : ℕ) → out.result ≡ result.Region n
+    accepts_child : {out : Allocation} → Ends s id o len flags align out → (n : ℕ) → out.result ≡ Ok n
         → Accepted s out.space pages (slot_of s id) n o len flags align
     accepts_child (refusal w f) n e = region_refused (sym e)
     accepts_child (accepts off shown) n e = accepted_child pages arrays p off shown n (same_region e)

@@ -1,4 +1,5 @@
 -- What `allocate` and `map` answer: some answer fits, and one that fits is the call's.
+use Rattle.std.specs.Prelude.{Option, Some, None, Result, Ok, Err}
 use Prim.Native.Nat.{ℕ, ◌+◌, ◌-◌, ◌%◌, ◌^◌, ◌≤◌, ◌<◌}
 use mathlib.Core.Path.{◌≡◌, refl, ◌∙◌, ap, subst}
 use mathlib.Core.Bool.{Bool, true, false, not}
@@ -18,23 +19,13 @@ use Rattle.space.specs.Space.{region_at, is_region, is_mapping}
 use Rattle.space.specs.declared.Space.{Space}
 use Rattle.space.proofs.Ranges.{sum_fits, sum_over}
 use Rattle.vmar_offset.specs.Offset.{slot_of, free_region, free_mapping, test_map, determine_offset}
-use Rattle.vmar_offset.specs.declared.Offset.{Offset}
-use Rattle.vmar_offset.specs.declared.Offset.TheVariants as asked
-use Rattle.vmar_offset.specs.declared.OffsetResult.{OffsetResult}
-use Rattle.vmar_offset.specs.declared.OffsetResult.TheVariants as found
 use Rattle.vmar_offset.proofs.Offsets.{odd_length, asked_odd, asked_full, asked_free, too_large, searched}
 use Rattle.vmar_offset.proofs.Found.{slot_live}
 use Rattle.vmar_allocate.specs.Allocate.{placed, settled, allocated}
-use Rattle.vmar_allocate.specs.declared.AllocateResult.{AllocateResult}
-use Rattle.vmar_allocate.specs.declared.AllocateResult.TheVariants as allocation
-use Rattle.vmar_allocate.specs.declared.Allocation.{Allocation}
+use Rattle.vmar_allocate.specs.Allocate.{Allocation}
 use Rattle.vmar_allocate.proofs.Allocates as allocates
 use Rattle.vmar_map.specs.Map as map
 use Rattle.vmar_map.specs.Map.{MapDone, tested, after_tests, mapped}
-use Rattle.vmar_map.specs.declared.MapExtResult.{MapExtResult}
-use Rattle.vmar_map.specs.declared.MapExtResult.TheVariants as result
-use Rattle.vmar_map.specs.declared.Tested.{Tested}
-use Rattle.vmar_map.specs.declared.Tested.TheVariants as test
 use Rattle.vmar_map.proofs.Maps as maps
 use Rattle.vmar_laws.specs.Search.{FirstFit, NoFit}
 use Rattle.vmar_laws.specs.Answers.{Goes, OffsetAnswers, ChildAnswers, Asked, AllocateAnswers, Known, VmoPages, Fine, Called, ArgumentsRefused, MappingAnswers, MapAnswers}
@@ -65,8 +56,8 @@ module _ (live : ℕ → Bool) (n : ℕ) where
       (below? lowest n)
 
 -- the offset
-module _ (s : Space) (r : ℕ) (o : Offset) (len align : ℕ) where
-  pub offset_only : (d : OffsetResult) → r < 32 → is_region s r ≡ true → OffsetAnswers s r o len align d → d ≡ determine_offset s r o len align
+module _ (s : Space) (r : ℕ) (o : Option ℕ) (len align : ℕ) where
+  pub offset_only : (d : Result ℕ Refusal) → r < 32 → is_region s r ≡ true → OffsetAnswers s r o len align d → d ≡ determine_offset s r o len align
   offset_only d low live (answer.odd m) = odd_length s r len align o m
   offset_only d low live (answer.full m off e n) =
       ⊎_elim
@@ -92,28 +83,28 @@ module _ (s : Space) (r : ℕ) (o : Offset) (len align : ℕ) where
       (tell (multiple off align))
 
   abbrev SomeOffset : Type 0
-  SomeOffset = (d : OffsetResult) × OffsetAnswers s r o len align d
+  SomeOffset = (d : Result ℕ Refusal) × OffsetAnswers s r o len align d
 
-  some_asked : r < 32 → is_region s r ≡ true → multiple len align ≡ true → (x : Offset) → o ≡ x → SomeOffset
-  some_asked low live m asked.None e =
+  some_asked : r < 32 → is_region s r ≡ true → multiple len align ≡ true → (x : Option ℕ) → o ≡ x → SomeOffset
+  some_asked low live m None e =
       ⊎_elim
-      (λ (l : (region_at s r).size < len). (found.Refused InvalidArgs, answer.large m e l))
+      (λ (l : (region_at s r).size < len). (Err InvalidArgs, answer.large m e l))
       (λ (l : len ≤ (region_at s r).size). ⊎_elim
-      (λ (f : (off : ℕ) × FirstFit s r len align off). (found.Ok f.0, answer.first m e l f.0 f.1))
-      (λ (n : NoFit s r len align). (found.Refused NoMemory, answer.nowhere m e l n))
+      (λ (f : (off : ℕ) × FirstFit s r len align off). (Ok f.0, answer.first m e l f.0 f.1))
+      (λ (n : NoFit s r len align). (Err NoMemory, answer.nowhere m e l n))
       (fits? s r len align))
       (below? (region_at s r).size len)
-  some_asked low live m (asked.Some off) e =
+  some_asked low live m (Some off) e =
       ⊎_elim
-      (λ (g : Goes s r len align off). (found.Ok off, answer.asked m off e g))
-      (λ (n : Goes s r len align off → ⊥). (found.Refused InvalidArgs, answer.full m off e n))
+      (λ (g : Goes s r len align off). (Ok off, answer.asked m off e g))
+      (λ (n : Goes s r len align off → ⊥). (Err InvalidArgs, answer.full m off e n))
       (goes? off low live)
 
   pub some_offset : r < 32 → is_region s r ≡ true → SomeOffset
   some_offset low live =
       ⊎_elim
       (λ (m : multiple len align ≡ true). some_asked low live m o refl)
-      (λ (m : multiple len align ≡ false). (found.Refused InvalidArgs, answer.odd m))
+      (λ (m : multiple len align ≡ false). (Err InvalidArgs, answer.odd m))
       (tell (multiple len align))
 
 -- the region of an id lives
@@ -121,7 +112,7 @@ home : (s : Space) (id : ℕ) → slot_of s id < 32 → is_region s (slot_of s i
 home s id l = (slot_live s id (λ z. omega arith)).1
 
 -- `allocate`
-module _ (s : Space) (id : ℕ) (o : Offset) (len flags align : ℕ) where
+module _ (s : Space) (id : ℕ) (o : Option ℕ) (len flags align : ℕ) where
   abbrev r : ℕ
   r = slot_of s id
 
@@ -131,13 +122,13 @@ module _ (s : Space) (id : ℕ) (o : Offset) (len flags align : ℕ) where
   result_is : {d e : Allocation} → d ≡ e → d.result ≡ e.result
   result_is e = ap (λ (d : Allocation). d.result) e
 
-  to_offset : Asked s id flags → (d : OffsetResult) → OffsetAnswers s r o len align d → settled s r len flags d ≡ Call
+  to_offset : Asked s id flags → (d : Result ℕ Refusal) → OffsetAnswers s r o len align d → settled s r len flags d ≡ Call
   to_offset A d k =
       let l = A.live in
       ap (settled s r len flags) (offset_only s r o len align d l (home s id l) k)
-      ∙ allocates.alive s id o len flags align (lt-ltb _ _ A.issued) A.known (ne_eqb r 32 (λ z. omega arith))
+      ∙ allocates.alive s id o len flags align (lt-ltb _ _ A.issued) A.known (slot_of s id) refl (ne_eqb r 32 (λ z. omega arith))
 
-  child_only : (off : ℕ) (x : AllocateResult) → ChildAnswers s x → x ≡ (placed s r off len flags).result
+  child_only : (off : ℕ) (x : Result ℕ Refusal) → ChildAnswers s x → x ≡ (placed s r off len flags).result
   child_only off x (answer.slots f) = result_is (allocates.no_slot s r off len flags (eq-eqb (free_region s) 32 (all_full (is_region s) 32 f)))
   child_only off x (answer.ids l) =
       ⊎_elim
@@ -147,44 +138,44 @@ module _ (s : Space) (id : ℕ) (o : Offset) (len flags align : ℕ) where
   child_only off x (answer.done i h f l) =
       result_is (allocates.made s r off len flags (free_region s) refl (ne_eqb (free_region s) 32 (not_full (is_region s) 32 i h f)) (lt-ltb _ _ l))
 
-  pub allocate_only : (x : AllocateResult) → AllocateAnswers s id o len flags align x → x ≡ Call.result
+  pub allocate_only : (x : Result ℕ Refusal) → AllocateAnswers s id o len flags align x → x ≡ Call.result
   allocate_only x (answer.unissued h) = result_is (allocates.never_issued s id o len flags align (le-ltb _ _ h))
   allocate_only x (answer.unknown h k) = result_is (allocates.unknown s id o len flags align (lt-ltb _ _ h) k)
   allocate_only x (answer.dead h k z) = result_is (allocates.dead s id o len flags align (lt-ltb _ _ h) k (eq-eqb r 32 z))
-  allocate_only x (answer.refused A why k) = result_is (to_offset A (found.Refused why) k)
-  allocate_only x (answer.child A off k y c) = child_only off y c ∙ result_is (to_offset A (found.Ok off) k)
+  allocate_only x (answer.refused A why k) = result_is (to_offset A (Err why) k)
+  allocate_only x (answer.child A off k y c) = child_only off y c ∙ result_is (to_offset A (Ok off) k)
 
-  some_child : (x : AllocateResult) × ChildAnswers s x
+  some_child : (x : Result ℕ Refusal) × ChildAnswers s x
   some_child =
       ⊎_elim
       (λ (f : (i : ℕ) × (i < 32) × (is_region s i ≡ false)). ⊎_elim
-      (λ (l : s.nextid < 2 ^ 32 - 1). (allocation.Region s.nextid, answer.done f.0 f.1 f.2 l))
-      (λ (l : 2 ^ 32 - 1 ≤ s.nextid). (allocation.Refused NoSlot, answer.ids l))
+      (λ (l : s.nextid < 2 ^ 32 - 1). (Ok s.nextid, answer.done f.0 f.1 f.2 l))
+      (λ (l : 2 ^ 32 - 1 ≤ s.nextid). (Err NoSlot, answer.ids l))
       (below? s.nextid (2 ^ 32 - 1)))
-      (λ f. (allocation.Refused NoSlot, answer.slots f))
+      (λ f. (Err NoSlot, answer.slots f))
       (free? (is_region s) 32)
 
   abbrev SomeAllocate : Type 0
-  SomeAllocate = (x : AllocateResult) × AllocateAnswers s id o len flags align x
+  SomeAllocate = (x : Result ℕ Refusal) × AllocateAnswers s id o len flags align x
 
-  at_offset : Asked s id flags → (d : OffsetResult) → OffsetAnswers s r o len align d → SomeAllocate
-  at_offset A (found.Ok off) k = (some_child.0, answer.child A off k some_child.0 some_child.1)
-  at_offset A (found.Refused why) k = (allocation.Refused why, answer.refused A why k)
+  at_offset : Asked s id flags → (d : Result ℕ Refusal) → OffsetAnswers s r o len align d → SomeAllocate
+  at_offset A (Ok off) k = (some_child.0, answer.child A off k some_child.0 some_child.1)
+  at_offset A (Err why) k = (Err why, answer.refused A why k)
 
   some_allocate : SomeAllocate
   some_allocate =
       ⊎_elim
       (λ (h : id < s.nextid). ⊎_elim
       (λ (k : known_region flags ≡ true). ⊎_elim
-      (λ (z : r ≡ 32). (allocation.Refused BadState, answer.dead h k z))
+      (λ (z : r ≡ 32). (Err BadState, answer.dead h k z))
       (λ (z : r ≡ 32 → ⊥).
       let l = slot_live s id z in
       let d = some_offset s r o len align l.0 l.1 in
       at_offset (record { issued = h; known = k; live = l.0 }) d.0 d.1)
       (same? r 32))
-      (λ (k : known_region flags ≡ false). (allocation.Refused InvalidArgs, answer.unknown h k))
+      (λ (k : known_region flags ≡ false). (Err InvalidArgs, answer.unknown h k))
       (tell (known_region flags)))
-      (λ (h : s.nextid ≤ id). (allocation.Refused BadHandle, answer.unissued h))
+      (λ (h : s.nextid ≤ id). (Err BadHandle, answer.unissued h))
       (below? id s.nextid)
 
   pub allocate_answers : AllocateAnswers s id o len flags align Call.result
@@ -192,7 +183,7 @@ module _ (s : Space) (id : ℕ) (o : Offset) (len flags align : ℕ) where
 
 -- what the first tests of `map_ext` say
 module _ (v at len p fl : ℕ) (faults : Bool) where
-  pages? : VmoPages at len ⊎ ((VmoPages at len → ⊥) × (test.Refused InvalidArgs ≡ tested v at len p fl faults))
+  pages? : VmoPages at len ⊎ ((VmoPages at len → ⊥) × (Err InvalidArgs ≡ tested v at len p fl faults))
   pages? =
       ⊎_elim
       (λ (a : multiple at 4096 ≡ true). ⊎_elim
@@ -205,7 +196,7 @@ module _ (v at len p fl : ℕ) (faults : Bool) where
       (λ (a : multiple at 4096 ≡ false). inr (λ w. clash _ (eq-eqb _ _ w.offset) a, maps.odd_offset v at len p fl faults a))
       (tell (multiple at 4096))
 
-  pub odd_tested : (VmoPages at len → ⊥) → test.Refused InvalidArgs ≡ tested v at len p fl faults
+  pub odd_tested : (VmoPages at len → ⊥) → Err InvalidArgs ≡ tested v at len p fl faults
   odd_tested n = ⊎_elim (λ (w : VmoPages at len). absurd (n w)) (λ k. k.1) pages?
 
   module _ (w : VmoPages at len) where
@@ -218,20 +209,20 @@ module _ (v at len p fl : ℕ) (faults : Bool) where
     in_time : leb (at + len) 0xffff_ffff_ffff_ffff ≡ true
     in_time = let z = w.end in le-leb (at + len) 0xffff_ffff_ffff_ffff (omega arith)
 
-    pub denied_tested : grants p (rights fl) ≡ false → test.Refused AccessDenied ≡ tested v at len p fl faults
+    pub denied_tested : grants p (rights fl) ≡ false → Err AccessDenied ≡ tested v at len p fl faults
     denied_tested d = maps.denied v at len p fl faults whole_at whole_len in_time d
 
-    pub past_tested : grants p (rights fl) ≡ true → faults ≡ false → v < at + len → test.Refused InvalidArgs ≡ tested v at len p fl faults
+    pub past_tested : grants p (rights fl) ≡ true → faults ≡ false → v < at + len → Err InvalidArgs ≡ tested v at len p fl faults
     past_tested d e l = maps.past_vmo v at len p fl faults whole_at whole_len in_time d e (lt-leb _ _ l)
 
-    within_tested : grants p (rights fl) ≡ true → (faults ≡ false → at + len ≤ v) → test.Fine ≡ tested v at len p fl faults
+    within_tested : grants p (rights fl) ≡ true → (faults ≡ false → at + len ≤ v) → Ok tt ≡ tested v at len p fl faults
     within_tested d l =
         ⊎_elim
         (λ (e : faults ≡ true). maps.faulting v at len p fl faults whole_at whole_len in_time d e)
         (λ (e : faults ≡ false). maps.in_vmo v at len p fl faults whole_at whole_len in_time d e (le-leb _ _ (l e)))
         (tell faults)
 
-  pub fine_tested : Fine v at len p fl faults → test.Fine ≡ tested v at len p fl faults
+  pub fine_tested : Fine v at len p fl faults → Ok tt ≡ tested v at len p fl faults
   fine_tested w = within_tested w.pages w.granted w.within
 
   -- which bits are unknown
@@ -285,7 +276,7 @@ module _ (v at len p fl : ℕ) (faults : Bool) where
         (below? id s.nextid)
 
 -- `map`
-module _ (s : Space) (f : List ℕ) (id : ℕ) (o : Offset) (vmo v at len p fl : ℕ) (faults : Bool) where
+module _ (s : Space) (f : List ℕ) (id : ℕ) (o : Option ℕ) (vmo v at len p fl : ℕ) (faults : Bool) where
   abbrev q : ℕ
   q = slot_of s id
 
@@ -295,7 +286,7 @@ module _ (s : Space) (f : List ℕ) (id : ℕ) (o : Offset) (vmo v at len p fl :
   map_is : {d e : MapDone} → d ≡ e → d.result ≡ e.result
   map_is e = ap (λ (d : MapDone). d.result) e
 
-  by_tests : id < s.nextid → Known p fl → {d : Tested} → d ≡ tested v at len p fl faults → after_tests s f id o vmo at len p fl d ≡ Map
+  by_tests : id < s.nextid → Known p fl → {d : Result (Unit {0}) Refusal} → d ≡ tested v at len p fl faults → after_tests s f id o vmo at len p fl d ≡ Map
   by_tests h k e = ap (after_tests s f id o vmo at len p fl) e ∙ maps.known_all s f id o vmo at len p fl v faults (lt-ltb _ _ h) k.0 k.1
 
   refused_only : (why : Refusal) → ArgumentsRefused s id v at len p fl faults why → map.refused s f why ≡ Map
@@ -310,18 +301,18 @@ module _ (s : Space) (f : List ℕ) (id : ℕ) (o : Offset) (vmo v at len p fl :
   refused_only why (answer.past h k w d e l) = by_tests h k (past_tested v at len p fl faults w d e l)
   refused_only why (answer.dead h k w z) = maps.dead s f id o vmo at len p fl (eq-eqb q 32 z) ∙ by_tests h k (fine_tested v at len p fl faults w)
 
-  mapping_offset : Called s id v at len p fl faults → (d : OffsetResult) → OffsetAnswers s q o len 4096 d → map.settled s f q vmo at len p fl d ≡ Map
+  mapping_offset : Called s id v at len p fl faults → (d : Result ℕ Refusal) → OffsetAnswers s q o len 4096 d → map.settled s f q vmo at len p fl d ≡ Map
   mapping_offset A d k =
       let l = A.live in
       ap (map.settled s f q vmo at len p fl) (offset_only s q o len 4096 d l (home s id l) k)
-      ∙ maps.alive s f id o vmo at len p fl (ne_eqb q 32 (λ z. omega arith))
+      ∙ maps.alive s f id o vmo at len p fl (slot_of s id) refl (ne_eqb q 32 (λ z. omega arith))
       ∙ by_tests A.issued A.known (fine_tested v at len p fl faults A.fine)
 
   module _ (off : ℕ) where
     abbrev addr : ℕ
     addr = (region_at s q).addr + off
 
-    mapping_only : (x : MapExtResult) → MappingAnswers s addr len x → x ≡ (map.placed s f q off vmo at len p fl).result
+    mapping_only : (x : Result ℕ Refusal) → MappingAnswers s addr len x → x ≡ (map.placed s f q off vmo at len p fl).result
     mapping_only x (answer.unaligned n) = map_is (maps.unaligned s f q off vmo at len p fl (ne_eqb _ _ n))
     mapping_only x (answer.long a l) = map_is (maps.too_many s f q off vmo at len p fl (eq-eqb _ _ a) (lt-ltb _ _ l))
     mapping_only x (answer.slots a g) =
@@ -332,30 +323,30 @@ module _ (s : Space) (f : List ℕ) (id : ℕ) (o : Offset) (vmo v at len p fl :
     mapping_only x (answer.done a l i h g) =
         map_is (maps.made s f q off vmo at len p fl (eq-eqb _ _ a) (le-ltb _ _ l) (free_mapping s) _ _ refl (ne_eqb (free_mapping s) 64 (not_full (is_mapping s) 64 i h g)) refl refl)
 
-    some_mapping : (x : MapExtResult) × MappingAnswers s addr len x
+    some_mapping : (x : Result ℕ Refusal) × MappingAnswers s addr len x
     some_mapping =
         ⊎_elim
         (λ (a : addr % 4096 ≡ 0). ⊎_elim
-        (λ (l : 0x200000 < len). (result.Refused NoSlot, answer.long a l))
+        (λ (l : 0x200000 < len). (Err NoSlot, answer.long a l))
         (λ (l : len ≤ 0x200000). ⊎_elim
-        (λ (g : (i : ℕ) × (i < 64) × (is_mapping s i ≡ false)). (result.Mapped addr, answer.done a l g.0 g.1 g.2))
-        (λ g. (result.Refused NoSlot, answer.slots a g))
+        (λ (g : (i : ℕ) × (i < 64) × (is_mapping s i ≡ false)). (Ok addr, answer.done a l g.0 g.1 g.2))
+        (λ g. (Err NoSlot, answer.slots a g))
         (free? (is_mapping s) 64))
         (below? 0x200000 len))
-        (λ (a : addr % 4096 ≡ 0 → ⊥). (result.Refused InvalidArgs, answer.unaligned a))
+        (λ (a : addr % 4096 ≡ 0 → ⊥). (Err InvalidArgs, answer.unaligned a))
         (same? (addr % 4096) 0)
 
-  pub map_only : (x : MapExtResult) → MapAnswers s id o v at len p fl faults x → x ≡ Map.result
+  pub map_only : (x : Result ℕ Refusal) → MapAnswers s id o v at len p fl faults x → x ≡ Map.result
   map_only x (answer.arguments why k) = map_is (refused_only why k)
-  map_only x (answer.refused A why k) = map_is (mapping_offset A (found.Refused why) k)
-  map_only x (answer.mapping A off k y c) = mapping_only off y c ∙ map_is (mapping_offset A (found.Ok off) k)
+  map_only x (answer.refused A why k) = map_is (mapping_offset A (Err why) k)
+  map_only x (answer.mapping A off k y c) = mapping_only off y c ∙ map_is (mapping_offset A (Ok off) k)
 
   abbrev SomeMap : Type 0
-  SomeMap = (x : MapExtResult) × MapAnswers s id o v at len p fl faults x
+  SomeMap = (x : Result ℕ Refusal) × MapAnswers s id o v at len p fl faults x
 
-  at_address : Called s id v at len p fl faults → (d : OffsetResult) → OffsetAnswers s q o len 4096 d → SomeMap
-  at_address A (found.Ok off) k = let m = some_mapping off in (m.0, answer.mapping A off k m.0 m.1)
-  at_address A (found.Refused why) k = (result.Refused why, answer.refused A why k)
+  at_address : Called s id v at len p fl faults → (d : Result ℕ Refusal) → OffsetAnswers s q o len 4096 d → SomeMap
+  at_address A (Ok off) k = let m = some_mapping off in (m.0, answer.mapping A off k m.0 m.1)
+  at_address A (Err why) k = (Err why, answer.refused A why k)
 
   some_map : SomeMap
   some_map =
@@ -364,7 +355,7 @@ module _ (s : Space) (f : List ℕ) (id : ℕ) (o : Offset) (vmo v at len p fl :
       let l = A.live in
       let d = some_offset s q o len 4096 l (home s id l) in
       at_address A d.0 d.1)
-      (λ (k : (why : Refusal) × ArgumentsRefused s id v at len p fl faults why). (result.Refused k.0, answer.arguments k.0 k.1))
+      (λ (k : (why : Refusal) × ArgumentsRefused s id v at len p fl faults why). (Err k.0, answer.arguments k.0 k.1))
       (called? v at len p fl faults s id)
 
   pub map_answers : MapAnswers s id o v at len p fl faults Map.result

@@ -1,4 +1,5 @@
 -- What `map_ext` does: how a call ends, and the mapping that an accepted one makes.
+use Rattle.std.specs.Prelude.{Option, None, Result, Ok, Err}
 use Prim.Native.Nat.{ℕ, ◌+◌, ◌*◌, ◌/◌, ◌%◌, ◌≤◌, ◌<◌}
 use mathlib.Core.Path.{◌≡◌, refl, sym, ◌∙◌, ap, subst}
 use mathlib.Core.Bool.{Bool, true, false}
@@ -20,16 +21,8 @@ use Rattle.space.specs.declared.Space.{Space}
 use Rattle.space.proofs.Ranges.{inner, sum_fits}
 use Rattle.space.proofs.Facts.{mapping_room, region_end}
 use Rattle.vmar_offset.specs.Offset.{slot_of, is_free_mapping, free_mapping, determine_offset}
-use Rattle.vmar_offset.specs.declared.Offset.{Offset}
-use Rattle.vmar_offset.specs.declared.Offset.TheVariants as asked
-use Rattle.vmar_offset.specs.declared.OffsetResult.{OffsetResult}
-use Rattle.vmar_offset.specs.declared.OffsetResult.TheVariants as offset
 use Rattle.vmar_offset.proofs.Found.{slot_live, free_mapping_lem, determined_free}
 use Rattle.vmar_map.specs.Map.{MapDone, refused, filled, tested, mapping, settled, in_region, after_tests, mapped}
-use Rattle.vmar_map.specs.declared.MapExtResult.{MapExtResult}
-use Rattle.vmar_map.specs.declared.MapExtResult.TheVariants as result
-use Rattle.vmar_map.specs.declared.Tested.{Tested}
-use Rattle.vmar_map.specs.declared.Tested.TheVariants as test
 use Rattle.vmar_map.proofs.Maps.{odd_offset, odd_length, over, denied, faulting, past_vmo, in_vmo, unaligned, too_many, no_slot, made, dead, alive, never_issued, unknown_permissions, unknown_flags, known_all}
 use Rattle.space.specs.Arrays.{Arrays}
 use Rattle.vmar_laws.specs.Later.{Later}
@@ -45,13 +38,13 @@ use Rattle.vmar_laws.proofs.Pages.{filled_length, pages_given}
 use Rattle.vmar_laws.proofs.Mapping.{Born, zeros, mapping_passes, mapping_arrays}
 
 -- how the first tests end: fine, or refused, not with 3
-pub data Tests (v at len p fl : ℕ) (faults : Bool) : Tested → Type 0 where
-  fine : Fine v at len p fl faults → Tests v at len p fl faults test.Fine
-  fails : (why : Refusal) → (why ≡ NoMemory → ◌≡◌ {A = ℕ} 0 1) → Tests v at len p fl faults (test.Refused why)
+pub data Tests (v at len p fl : ℕ) (faults : Bool) : Result (Unit {0}) Refusal → Type 0 where
+  fine : Fine v at len p fl faults → Tests v at len p fl faults (Ok tt)
+  fails : (why : Refusal) → (why ≡ NoMemory → ◌≡◌ {A = ℕ} 0 1) → Tests v at len p fl faults (Err why)
 
 module _ (v at len p f : ℕ) (faults : Bool) where
   -- a test that fails
-  failing : (why : Refusal) → (why ≡ NoMemory → ◌≡◌ {A = ℕ} 0 1) → (d : Tested) → test.Refused why ≡ d → Tests v at len p f faults d
+  failing : (why : Refusal) → (why ≡ NoMemory → ◌≡◌ {A = ℕ} 0 1) → (d : Result (Unit {0}) Refusal) → Err why ≡ d → Tests v at len p f faults d
   failing why n d e = subst (Tests v at len p f faults) e (fails why n)
 
   pub tests : Tests v at len p f faults (tested v at len p f faults)
@@ -71,7 +64,7 @@ module _ (v at len p f : ℕ) (faults : Bool) where
       (tell (multiple at 4096))
     where
       passed : multiple at 4096 ≡ true → multiple len 4096 ≡ true → leb (at + len) 0xffff_ffff_ffff_ffff ≡ true → grants p (rights f) ≡ true
-          → (faults ≡ false → at + len ≤ v) → Tests v at len p f faults test.Fine
+          → (faults ≡ false → at + len ≤ v) → Tests v at len p f faults (Ok tt)
       passed a b c d e = fine (record { pages = record { offset = eqb-true _ _ a; size = eqb-true _ _ b; end = sum_fits at len c }; granted = d; within = e })
 
       last : multiple at 4096 ≡ true → multiple len 4096 ≡ true → leb (at + len) 0xffff_ffff_ffff_ffff ≡ true → grants p (rights f) ≡ true
@@ -81,23 +74,23 @@ module _ (v at len p f : ℕ) (faults : Bool) where
       last a b c d (inr e) (inr g) = failing InvalidArgs (λ q. cc) _ (past_vmo v at len p f faults a b c d e g)
 
 -- what an accepted call has shown
-record Shown (s : Space) (id : ℕ) (o : Offset) (v at len p fl : ℕ) (faults : Bool) (off : ℕ) : Type 0 where
+record Shown (s : Space) (id : ℕ) (o : Option ℕ) (v at len p fl : ℕ) (faults : Bool) (off : ℕ) : Type 0 where
   permissions : known_page p ≡ true
   flags : known_page fl ≡ true
   fine : Fine v at len p fl faults
   live : slot_of s id ≡ 32 → ⊥
-  found : determine_offset s (slot_of s id) o len 4096 ≡ offset.Ok off
+  found : determine_offset s (slot_of s id) o len 4096 ≡ Ok off
   aligned : ((region_at s (slot_of s id)).addr + off) % 4096 ≡ 0
   few : len ≤ 0x200000
   free : free_mapping s ≡ 64 → ⊥
 
-module _ (s : Space) (f : List ℕ) (id : ℕ) (o : Offset) (vmo v at len p fl : ℕ) (faults : Bool) where
+module _ (s : Space) (f : List ℕ) (id : ℕ) (o : Option ℕ) (vmo v at len p fl : ℕ) (faults : Bool) where
   -- how a call ends: refused, with 3 only by the search, or with the mapping
   data Ends : MapDone → Type 0 where
-    refusal : (why : Refusal) → (why ≡ NoMemory → determine_offset s (slot_of s id) o len 4096 ≡ offset.Refused NoMemory) → Ends (refused s f why)
+    refusal : (why : Refusal) → (why ≡ NoMemory → determine_offset s (slot_of s id) o len 4096 ≡ Err NoMemory) → Ends (refused s f why)
     accepts : (off : ℕ) → Shown s id o v at len p fl faults off
         → Ends (record {
-          result = result.Mapped ((region_at s (slot_of s id)).addr + off);
+          result = Ok ((region_at s (slot_of s id)).addr + off);
           space = with_mapping s (free_mapping s) (mapping s (slot_of s id) off vmo at len p);
           flags = filled f (free_mapping s * 512) (len / 4096) fl;
         })
@@ -106,9 +99,9 @@ module _ (s : Space) (f : List ℕ) (id : ℕ) (o : Offset) (vmo v at len p fl :
   other : (why : Refusal) → (why ≡ NoMemory → ◌≡◌ {A = ℕ} 0 1) → (out : MapDone) → refused s f why ≡ out → Ends out
   other why n out e = subst Ends e (refusal why (λ q. let z = n q in absurd (omega arith)))
 
-  settles : known_page p ≡ true → known_page fl ≡ true → Fine v at len p fl faults → (slot_of s id ≡ 32 → ⊥) → (d : OffsetResult) → determine_offset s (slot_of s id) o len 4096 ≡ d
+  settles : known_page p ≡ true → known_page fl ≡ true → Fine v at len p fl faults → (slot_of s id ≡ 32 → ⊥) → (d : Result ℕ Refusal) → determine_offset s (slot_of s id) o len 4096 ≡ d
       → Ends (settled s f (slot_of s id) vmo at len p fl d)
-  settles k l w n (offset.Ok off) e =
+  settles k l w n (Ok off) e =
       let r = slot_of s id in
       ⊎_elim
       (λ (a : multiple ((region_at s r).addr + off) 4096 ≡ true). ⊎_elim
@@ -131,16 +124,16 @@ module _ (s : Space) (f : List ℕ) (id : ℕ) (o : Offset) (vmo v at len p fl :
       (tell (ltb 0x200000 len)))
       (λ (a : multiple ((region_at s r).addr + off) 4096 ≡ false). other InvalidArgs (λ q. cc) _ (unaligned s f r off vmo at len p fl a))
       (tell (multiple ((region_at s r).addr + off) 4096))
-  settles k l w n (offset.Refused why) e = refusal why (λ q. e ∙ ap (λ (x : Refusal). offset.Refused x) q)
+  settles k l w n (Err why) e = refusal why (λ q. e ∙ ap (λ (x : Refusal). Err x) q)
 
   in_region_lem : known_page p ≡ true → known_page fl ≡ true → Fine v at len p fl faults → Ends (in_region s f id o vmo at len p fl)
   in_region_lem k l w =
       ⊎_elim
       (λ (d : eqb (slot_of s id) 32 ≡ true). other BadState (λ q. cc) _ (dead s f id o vmo at len p fl d))
-      (λ (d : eqb (slot_of s id) 32 ≡ false). subst Ends (alive s f id o vmo at len p fl d) (settles k l w (eqb-false _ _ d) _ refl))
+      (λ (d : eqb (slot_of s id) 32 ≡ false). subst Ends (alive s f id o vmo at len p fl (slot_of s id) refl d) (settles k l w (eqb-false _ _ d) _ refl))
       (tell (eqb (slot_of s id) 32))
 
-  after_tests_lem : {d : Tested} → known_page p ≡ true → known_page fl ≡ true → Tests v at len p fl faults d → Ends (after_tests s f id o vmo at len p fl d)
+  after_tests_lem : {d : Result (Unit {0}) Refusal} → known_page p ≡ true → known_page fl ≡ true → Tests v at len p fl faults d → Ends (after_tests s f id o vmo at len p fl d)
   after_tests_lem k l (fine w) = in_region_lem k l w
   after_tests_lem k l (fails why n) = other why n _ refl
 
@@ -157,20 +150,20 @@ module _ (s : Space) (f : List ℕ) (id : ℕ) (o : Offset) (vmo v at len p fl :
       (λ (h : ltb id s.nextid ≡ false). other BadHandle (λ q. cc) _ (never_issued s f id o vmo at len p fl v faults h))
       (tell (ltb id s.nextid))
 
-  mapped_refused : {A : Type 0} {n : ℕ} {why : Refusal} → ◌≡◌ {A = MapExtResult} (result.Mapped n) (result.Refused why) → A
+  mapped_refused : {A : Type 0} {n : ℕ} {why : Refusal} → ◌≡◌ {A = Result ℕ Refusal} (Ok n) (Err why) → A
   mapped_refused e = let z : ◌≡◌ {A = ℕ} 0 1 = cc in absurd (omega arith)
 
-  same_address : {a b : ℕ} → ◌≡◌ {A = MapExtResult} (result.Mapped a) (result.Mapped b) → a ≡ b
+  same_address : {a b : ℕ} → ◌≡◌ {A = Result ℕ Refusal} (Ok a) (Ok b) → a ≡ b
   same_address e = cc
 
-  same_why : {a b : Refusal} → ◌≡◌ {A = MapExtResult} (result.Refused a) (result.Refused b) → a ≡ b
+  same_why : {a b : Refusal} → ◌≡◌ {A = Result ℕ Refusal} (Err a) (Err b) → a ≡ b
   same_why e = cc
 
-  nothing_changes : {out : MapDone} → Ends out → (why : Refusal) → out.result ≡ result.Refused why → (out.space ≡ s) × (out.flags ≡ f)
+  nothing_changes : {out : MapDone} → Ends out → (why : Refusal) → out.result ≡ Err why → (out.space ≡ s) × (out.flags ≡ f)
   nothing_changes (refusal w n) why e = (refl, refl)
   nothing_changes (accepts off k) why e = mapped_refused e
 
-  nowhere_free : {out : MapDone} → Ends out → out.result ≡ result.Refused NoMemory → (o ≡ asked.None) × NoFit s (slot_of s id) len 4096
+  nowhere_free : {out : MapDone} → Ends out → out.result ≡ Err NoMemory → (o ≡ None) × NoFit s (slot_of s id) len 4096
   nowhere_free (refusal w n) e = no_memory s (slot_of s id) len 4096 o (n (same_why e))
   nowhere_free (accepts off k) e = mapped_refused e
 
@@ -270,7 +263,7 @@ module _ (s : Space) (f : List ℕ) (id : ℕ) (o : Offset) (vmo v at len p fl :
       unhinted = λ q. (off, sym e, unhinted s r len 4096 o off shown.found q);
     }
 
-  accepts_mapping : Arrays s → Passes s f → {out : MapDone} → Ends out → (addr : ℕ) → out.result ≡ result.Mapped addr
+  accepts_mapping : Arrays s → Passes s f → {out : MapDone} → Ends out → (addr : ℕ) → out.result ≡ Ok addr
       → Accepted s out.space f out.flags (slot_of s id) addr o vmo v at len p fl faults
   accepts_mapping arrays passes (refusal w n) addr e = mapped_refused (sym e)
   accepts_mapping arrays passes (accepts off shown) addr e = accepted_mapping arrays passes off shown addr (same_address e)

@@ -1,4 +1,5 @@
 -- What an offset that was found tells: where it comes from, and what is free there.
+use Rattle.std.specs.Prelude.{Option, Some, None, Result, Ok, Err}
 use Prim.Native.Nat.{ℕ, zero, suc, ◌+◌, ◌-◌, ◌≤◌, ◌<◌}
 use mathlib.Core.Path.{◌≡◌, refl, sym, ◌∙◌, ap, subst}
 use mathlib.Core.Bool.{Bool, true, false, not}
@@ -15,27 +16,21 @@ use Rattle.refusal.specs.declared.Refusal.TheVariants.{InvalidArgs, NoMemory}
 use Rattle.space.specs.Range.{overlap}
 use Rattle.space.specs.Space.{region_at, mapping_at, is_region}
 use Rattle.space.specs.declared.Region.{Region}
-use Rattle.space.specs.declared.Mapping.{Mapping}
 use Rattle.space.specs.declared.Space.{Space}
 use Rattle.space.proofs.Ranges.{inner, inner_of}
-use Rattle.vmar_offset.specs.Offset.{child_meets, mapping_meets, meets_child, meets_mapping, test_map, takes_child, takes_mapping, child_end, mapping_end, find_free_area, found, determine_offset}
-use Rattle.vmar_offset.specs.declared.Offset.{Offset}
-use Rattle.vmar_offset.specs.declared.Offset.TheVariants as offset
-use Rattle.vmar_offset.specs.declared.OffsetResult.{OffsetResult}
-use Rattle.vmar_offset.specs.declared.OffsetResult.TheVariants as result
+use Rattle.vmar_offset.specs.Offset.{meets, child_meets, meets_child, meets_mapping, test_map, takes_child, takes_mapping, child_end, mapping_end, find_free_area, found, determine_offset}
 use Rattle.vmar_offset.proofs.Offsets.{on_child, off_children, at_zero, at_child_lem, at_mapping_lem, nowhere, odd_length, asked_odd, asked_full, asked_free, too_large, searched}
 use Rattle.vmar_offset.proofs.Found.{free_fits}
 use Rattle.vmar_laws.specs.Search.{FreeIn, NoChild, FirstFit, NoFit, OneFit}
 use Rattle.vmar_laws.specs.Search as fit
 
--- a child of r that does not meet a range does not overlap it, nor does a mapping
-pub apart_child : (g : Region) (r b n : ℕ) → child_meets g r b n ≡ false → g.live ≡ true → g.parent ≡ r → overlap g.addr g.size b n ≡ false
-unfolding child_meets
-apart_child g r b n e a q = rw (a, eq-eqb g.parent r q) at e
+-- a part of r that does not meet a range does not overlap it
+apart_part : (live : Bool) (owner addr size r b n : ℕ) → meets live owner addr size r b n ≡ false → live ≡ true → owner ≡ r → overlap addr size b n ≡ false
+unfolding meets
+apart_part live owner addr size r b n e a q = rw (a, eq-eqb owner r q) at e
 
-apart_mapping : (m : Mapping) (r b n : ℕ) → mapping_meets m r b n ≡ false → m.live ≡ true → m.region ≡ r → overlap m.addr m.size b n ≡ false
-unfolding mapping_meets
-apart_mapping m r b n e a q = rw (a, eq-eqb m.region r q) at e
+pub apart_child : (g : Region) (r b n : ℕ) → child_meets g r b n ≡ false → g.live ≡ true → g.parent ≡ r → overlap g.addr g.size b n ≡ false
+apart_child g = apart_part g.live g.parent g.addr g.size
 
 -- what is free lies in its region and overlaps no child and no mapping of it
 module _ (s : Space) (r off len : ℕ) (t : test_map s r off len ≡ true) where
@@ -57,25 +52,17 @@ module _ (s : Space) (r off len : ℕ) (t : test_map s r off len ≡ true) where
         live = a;
         inner = inner_of _ _ _ _ (omega arith) (omega arith);
         children = λ j h. apart_child (region_at s j) r _ _ (none_passes (meets_child s r ((region_at s r).addr + off) len) 0 32 j children_off (omega arith) h);
-        mappings = λ j h. apart_mapping (mapping_at s j) r _ _ (none_passes (meets_mapping s r ((region_at s r).addr + off) len) 0 64 j mappings_off (omega arith) h);
+        mappings = λ j h. let m = mapping_at s j in apart_part m.live m.region m.addr m.size r _ _ (none_passes (meets_mapping s r ((region_at s r).addr + off) len) 0 64 j mappings_off (omega arith) h);
       }
 
 -- and what lies so passes the test
-meets_none : (g : Region) (r b n : ℕ) → (g.live ≡ true → g.parent ≡ r → overlap g.addr g.size b n ≡ false) → child_meets g r b n ≡ false
-unfolding child_meets
-meets_none g r b n f =
+meets_none : (live : Bool) (owner addr size r b n : ℕ) → (live ≡ true → owner ≡ r → overlap addr size b n ≡ false) → meets live owner addr size r b n ≡ false
+unfolding meets
+meets_none live owner addr size r b n f =
     ⊎_elim
-    (λ (l : g.live ≡ true). ⊎_elim (λ (q : eqb g.parent r ≡ true). rw (l, q) (f l (eqb-true _ _ q))) (λ (q : eqb g.parent r ≡ false). rw (l, q)) (tell (eqb g.parent r)))
-    (λ (l : g.live ≡ false). rw l)
-    (tell g.live)
-
-none_meets : (m : Mapping) (r b n : ℕ) → (m.live ≡ true → m.region ≡ r → overlap m.addr m.size b n ≡ false) → mapping_meets m r b n ≡ false
-unfolding mapping_meets
-none_meets m r b n f =
-    ⊎_elim
-    (λ (l : m.live ≡ true). ⊎_elim (λ (q : eqb m.region r ≡ true). rw (l, q) (f l (eqb-true _ _ q))) (λ (q : eqb m.region r ≡ false). rw (l, q)) (tell (eqb m.region r)))
-    (λ (l : m.live ≡ false). rw l)
-    (tell m.live)
+    (λ (l : live ≡ true). ⊎_elim (λ (q : eqb owner r ≡ true). rw (l, q) (f l (eqb-true _ _ q))) (λ (q : eqb owner r ≡ false). rw (l, q)) (tell (eqb owner r)))
+    (λ (l : live ≡ false). rw l)
+    (tell live)
 
 -- where each fails, none passes
 all_fail : (p : ℕ → Bool) (k i : ℕ) → ((j : ℕ) → j < i + k → p j ≡ false) → some_of p i k ≡ false
@@ -90,25 +77,25 @@ none_pass p n f = all_fail p (n - 0) 0 (λ j l. f j (omega arith))
 pub free_tests : (s : Space) (r off len : ℕ) → FreeIn s r ((region_at s r).addr + off) len → test_map s r off len ≡ true
 free_tests s r off len f =
     let z = (inner _ _ _ _ f.inner).1 in
-    off_children s r off len (le-leb (off + len) (region_at s r).size (omega arith)) (none_pass _ 32 (λ j l. meets_none (region_at s j) r _ _ (f.children j l)))
-    ∙ ap not (none_pass _ 64 (λ j l. none_meets (mapping_at s j) r _ _ (f.mappings j l)))
+    off_children s r off len (le-leb (off + len) (region_at s r).size (omega arith)) (none_pass _ 32 (λ j l. let g = region_at s j in meets_none g.live g.parent g.addr g.size r _ _ (f.children j l)))
+    ∙ ap not (none_pass _ 64 (λ j l. let m = mapping_at s j in meets_none m.live m.region m.addr m.size r _ _ (f.mappings j l)))
 
-same_ok : {a b : ℕ} → ◌≡◌ {A = OffsetResult} (result.Ok a) (result.Ok b) → a ≡ b
+same_ok : {a b : ℕ} → ◌≡◌ {A = Result ℕ Refusal} (Ok a) (Ok b) → a ≡ b
 same_ok e = cc
 
-refused_ok : {A : Type 0} {why : Refusal} {b : ℕ} → ◌≡◌ {A = OffsetResult} (result.Refused why) (result.Ok b) → A
+refused_ok : {A : Type 0} {why : Refusal} {b : ℕ} → ◌≡◌ {A = Result ℕ Refusal} (Err why) (Ok b) → A
 refused_ok e = let z : ◌≡◌ {A = ℕ} 0 1 = cc in absurd (omega arith)
 
-invalid_none : {A : Type 0} → ◌≡◌ {A = OffsetResult} (result.Refused InvalidArgs) (result.Refused NoMemory) → A
+invalid_none : {A : Type 0} → ◌≡◌ {A = Result ℕ Refusal} (Err InvalidArgs) (Err NoMemory) → A
 invalid_none e = let z : ◌≡◌ {A = ℕ} 0 1 = cc in absurd (omega arith)
 
-ok_none : {A : Type 0} {b : ℕ} → ◌≡◌ {A = OffsetResult} (result.Ok b) (result.Refused NoMemory) → A
+ok_none : {A : Type 0} {b : ℕ} → ◌≡◌ {A = Result ℕ Refusal} (Ok b) (Err NoMemory) → A
 ok_none e = let z : ◌≡◌ {A = ℕ} 0 1 = cc in absurd (omega arith)
 
 -- all of the search, found or not
-data Searched (s : Space) (r len align : ℕ) : Offset → Type 0 where
-  at : (off : ℕ) → FirstFit s r len align off → Searched s r len align (offset.Some off)
-  none : NoFit s r len align → Searched s r len align offset.None
+data Searched (s : Space) (r len align : ℕ) : Option ℕ → Type 0 where
+  at : (off : ℕ) → FirstFit s r len align off → Searched s r len align (Some off)
+  none : NoFit s r len align → Searched s r len align None
 
 -- a place that is not before the end is past all of them
 all_before : (p : ℕ → Bool) (n : ℕ) → ltb (first p 0 n) n ≡ false → (j : ℕ) → j < n → p j ≡ false
@@ -147,16 +134,16 @@ module _ (s : Space) (r len align : ℕ) where
           (λ (l : ltb k s.regcount ≡ false). last t l (tell (ltb j s.mapcount)))
           (tell (ltb k s.regcount))
 
-  found_fit : {a : Offset} (off : ℕ) → Searched s r len align a → found a ≡ result.Ok off → FirstFit s r len align off
+  found_fit : {a : Option ℕ} (off : ℕ) → Searched s r len align a → found a ≡ Ok off → FirstFit s r len align off
   found_fit off (at o w) e = subst (FirstFit s r len align) (same_ok e) w
   found_fit off (none w) e = refused_ok e
 
-  found_none : {a : Offset} → Searched s r len align a → found a ≡ result.Refused NoMemory → NoFit s r len align
+  found_none : {a : Option ℕ} → Searched s r len align a → found a ≡ Err NoMemory → NoFit s r len align
   found_none (at o w) e = ok_none e
   found_none (none w) e = w
 
   -- the offset asked for is the one found, a multiple of the alignment
-  pub hinted : (o : Offset) (off : ℕ) → determine_offset s r o len align ≡ result.Ok off → (a : ℕ) → o ≡ offset.Some a → (off ≡ a) × (multiple a align ≡ true)
+  pub hinted : (o : Option ℕ) (off : ℕ) → determine_offset s r o len align ≡ Ok off → (a : ℕ) → o ≡ Some a → (off ≡ a) × (multiple a align ≡ true)
   hinted o off e a q =
       ⊎_elim
       (λ (m : multiple len align ≡ true). ⊎_elim
@@ -170,7 +157,7 @@ module _ (s : Space) (r len align : ℕ) where
       (tell (multiple len align))
 
   -- one that was not asked for is the first that fits
-  pub unhinted : (o : Offset) (off : ℕ) → determine_offset s r o len align ≡ result.Ok off → o ≡ offset.None → FirstFit s r len align off
+  pub unhinted : (o : Option ℕ) (off : ℕ) → determine_offset s r o len align ≡ Ok off → o ≡ None → FirstFit s r len align off
   unhinted o off e q =
       ⊎_elim
       (λ (m : multiple len align ≡ true). ⊎_elim
@@ -181,15 +168,15 @@ module _ (s : Space) (r len align : ℕ) where
       (tell (multiple len align))
 
   -- 3 is given only where none was asked for and none fits
-  pub no_memory : (o : Offset) → determine_offset s r o len align ≡ result.Refused NoMemory → (o ≡ offset.None) × NoFit s r len align
+  pub no_memory : (o : Option ℕ) → determine_offset s r o len align ≡ Err NoMemory → (o ≡ None) × NoFit s r len align
   no_memory o e =
       ⊎_elim
       (λ (m : multiple len align ≡ true). by o refl m)
       (λ (m : multiple len align ≡ false). invalid_none (odd_length s r len align o m ∙ e))
       (tell (multiple len align))
     where
-      by : (a : Offset) → o ≡ a → multiple len align ≡ true → (o ≡ offset.None) × NoFit s r len align
-      by (offset.Some a) q m =
+      by : (a : Option ℕ) → o ≡ a → multiple len align ≡ true → (o ≡ None) × NoFit s r len align
+      by (Some a) q m =
           ⊎_elim
           (λ (t : multiple a align ≡ true). ⊎_elim
           (λ (f : test_map s r a len ≡ true). ok_none (asked_free s r len align o m a q t f ∙ e))
@@ -197,7 +184,7 @@ module _ (s : Space) (r len align : ℕ) where
           (tell (test_map s r a len)))
           (λ (t : multiple a align ≡ false). invalid_none (asked_odd s r len align o m a q t ∙ e))
           (tell (multiple a align))
-      by offset.None q m =
+      by None q m =
           ⊎_elim
           (λ (t : ltb (region_at s r).size len ≡ true). invalid_none (too_large s r len align o m q t ∙ e))
           (λ (t : ltb (region_at s r).size len ≡ false). (q, found_none search_all (searched s r len align o m q t ∙ e)))
@@ -229,22 +216,22 @@ module _ (s : Space) (r len align : ℕ) where
   none_fits _ n (fit.mapping k l m q u) = clash (takes_mapping s r len align k) u (n.mappings k l)
 
   -- what the search finds, by what fits
-  by_fit : {a : Offset} (off : ℕ) → Searched s r len align a → FirstFit s r len align off → result.Ok off ≡ found a
-  by_fit off (at o w) f = ap (λ (x : ℕ). result.Ok x) (only off o f w)
+  by_fit : {a : Option ℕ} (off : ℕ) → Searched s r len align a → FirstFit s r len align off → Ok off ≡ found a
+  by_fit off (at o w) f = ap (λ (x : ℕ). Ok x) (only off o f w)
   by_fit off (none w) f = absurd (none_fits off w f)
 
-  by_none : {a : Offset} → Searched s r len align a → NoFit s r len align → result.Refused NoMemory ≡ found a
+  by_none : {a : Option ℕ} → Searched s r len align a → NoFit s r len align → Err NoMemory ≡ found a
   by_none (at o w) n = absurd (none_fits o n w)
   by_none (none w) n = refl
 
-  one_or_none : {a : Offset} → Searched s r len align a → ((off : ℕ) × FirstFit s r len align off) ⊎ NoFit s r len align
+  one_or_none : {a : Option ℕ} → Searched s r len align a → ((off : ℕ) × FirstFit s r len align off) ⊎ NoFit s r len align
   one_or_none (at o w) = inl (o, w)
   one_or_none (none w) = inr w
 
-  pub fit_found : (off : ℕ) → FirstFit s r len align off → result.Ok off ≡ found (find_free_area s r len align)
+  pub fit_found : (off : ℕ) → FirstFit s r len align off → Ok off ≡ found (find_free_area s r len align)
   fit_found off f = by_fit off (search_all s r len align) f
 
-  pub none_found : NoFit s r len align → result.Refused NoMemory ≡ found (find_free_area s r len align)
+  pub none_found : NoFit s r len align → Err NoMemory ≡ found (find_free_area s r len align)
   none_found n = by_none (search_all s r len align) n
 
   pub fits? : ((off : ℕ) × FirstFit s r len align off) ⊎ NoFit s r len align

@@ -1,7 +1,7 @@
 -- What `allocate` on a space that passes its check does. Document 01: "A refusal gives value 0 and changes nothing anywhere"; "every child and mapping is in one list
 -- and inside its region, no two of a region overlap"; "Slots .. are used again, the lowest free one first"; "Region ids count up from 0 (the root)"; 'Regions' on the
 -- offset.
-use Rattle.std.specs.Prelude.{ℕ, ◌+◌, ◌<◌, ◌≡◌, true, false, List}
+use Rattle.std.specs.Prelude.{ℕ, ◌+◌, ◌<◌, ◌≡◌, true, false, List, Option, Some, None, Result, Ok, Err}
 use Rattle.vm.specs.Align.{multiple}
 use Rattle.refusal.specs.declared.Refusal.{Refusal}
 use Rattle.refusal.specs.declared.Refusal.TheVariants.{NoMemory}
@@ -9,11 +9,7 @@ use Rattle.space.specs.Space.{region_at, is_region, region_place}
 use Rattle.space.specs.Passes.{Passes}
 use Rattle.space.specs.declared.Space.{Space}
 use Rattle.vmar_offset.specs.Offset.{slot_of, free_region}
-use Rattle.vmar_offset.specs.declared.Offset.{Offset}
-use Rattle.vmar_offset.specs.declared.Offset.TheVariants as offset
 use Rattle.vmar_allocate.specs.Allocate.{allocated}
-use Rattle.vmar_allocate.specs.declared.AllocateResult.{AllocateResult}
-use Rattle.vmar_allocate.specs.declared.AllocateResult.TheVariants as result
 use Rattle.space.specs.Arrays.{Arrays}
 use Rattle.vmar_laws.specs.Later.{Later}
 use Rattle.vmar_laws.specs.Search.{FreeIn, FirstFit, NoFit}
@@ -49,30 +45,30 @@ pub record RegionsKept (s t : Space) (i : ℕ) : Type 0 where
   pub mapcount : t.mapcount ≡ s.mapcount
 
 -- s has become t: n is the id of a new child of the region in slot r
-pub record Accepted (s t : Space) (pages : List ℕ) (r n : ℕ) (o : Offset) (len flags align : ℕ) : Type 0 where
+pub record Accepted (s t : Space) (pages : List ℕ) (r n : ℕ) (o : Option ℕ) (len flags align : ℕ) : Type 0 where
   pub passes : Passes t pages
   pub arrays : Arrays t
   pub id : n ≡ s.nextid
   pub child : NewChild s t r (free_region s) len flags
   pub kept : RegionsKept s t (free_region s)
   -- at the offset asked for, a multiple of the alignment
-  pub hinted : (at : ℕ) → o ≡ offset.Some at → ((region_at t (free_region s)).addr ≡ (region_at s r).addr + at) × (multiple at align ≡ true)
+  pub hinted : (at : ℕ) → o ≡ Some at → ((region_at t (free_region s)).addr ≡ (region_at s r).addr + at) × (multiple at align ≡ true)
   -- or at the first that fits
-  pub unhinted : o ≡ offset.None → (at : ℕ) × ((region_at t (free_region s)).addr ≡ (region_at s r).addr + at) × FirstFit s r len align at
+  pub unhinted : o ≡ None → (at : ℕ) × ((region_at t (free_region s)).addr ≡ (region_at s r).addr + at) × FirstFit s r len align at
 
 -- What is proved of every call on a space that passes its check: `AllocatesAll`, below.
-pub record Allocates (s : Space) (pages : List ℕ) (id : ℕ) (o : Offset) (len flags align : ℕ) : Type 0 where
+pub record Allocates (s : Space) (pages : List ℕ) (id : ℕ) (o : Option ℕ) (len flags align : ℕ) : Type 0 where
   -- "A refusal .. changes nothing anywhere"
-  pub refused : (why : Refusal) → (allocated s id o len flags align).result ≡ result.Refused why → (allocated s id o len flags align).space ≡ s
+  pub refused : (why : Refusal) → (allocated s id o len flags align).result ≡ Err why → (allocated s id o len flags align).space ≡ s
   -- 3 only where "the unhinted search finds nothing"
-  pub nowhere : (allocated s id o len flags align).result ≡ result.Refused NoMemory → (o ≡ offset.None) × NoFit s (slot_of s id) len align
-  pub accepted : (n : ℕ) → (allocated s id o len flags align).result ≡ result.Region n
+  pub nowhere : (allocated s id o len flags align).result ≡ Err NoMemory → (o ≡ None) × NoFit s (slot_of s id) len align
+  pub accepted : (n : ℕ) → (allocated s id o len flags align).result ≡ Ok n
       → Accepted s (allocated s id o len flags align).space pages (slot_of s id) n o len flags align
   -- ids "never come back", refused or not
   pub later : Later s (allocated s id o len flags align).space
   -- what the call answers, and no second answer fits
   pub answers : AllocateAnswers s id o len flags align (allocated s id o len flags align).result
-  pub only : (x : AllocateResult) → AllocateAnswers s id o len flags align x → x ≡ (allocated s id o len flags align).result
+  pub only : (x : Result ℕ Refusal) → AllocateAnswers s id o len flags align x → x ≡ (allocated s id o len flags align).result
 
 pub record AllocatesAll : Type 0 where
-  pub holds : (s : Space) (pages : List ℕ) → Arrays s → Passes s pages → (id : ℕ) (o : Offset) (len flags align : ℕ) → Allocates s pages id o len flags align
+  pub holds : (s : Space) (pages : List ℕ) → Arrays s → Passes s pages → (id : ℕ) (o : Option ℕ) (len flags align : ℕ) → Allocates s pages id o len flags align

@@ -8,9 +8,7 @@ use Rattle.paging.proofs.Cases.{same?, below?}
 use Rattle.space.specs.Space.{region_place}
 use Rattle.space.specs.Passes.{Passes}
 use Rattle.space.specs.declared.Space.{Space}
-use Rattle.vmar_lookup.specs.Lookup.{step_at, follow, look}
-use Rattle.vmar_lookup.specs.declared.Next.{Next}
-use Rattle.vmar_lookup.specs.declared.Next.TheVariants as next
+use Rattle.vmar_lookup.specs.Lookup.{step_at, follow, look, Next, Down, Here, Refused}
 use Rattle.vmar_lookup.proofs.Lookups.{Downward, Shown, shown, owned_is}
 
 module _ (s : Space) (flags : List ℕ) (p : Passes s flags) (x : ℕ) where
@@ -23,7 +21,7 @@ module _ (s : Space) (flags : List ℕ) (p : Passes s flags) (x : ℕ) where
       (below? j k)
 
   -- a step down goes to a later place
-  later : (k c : ℕ) → k < s.regcount → step_at s x (region_place s k) ≡ next.Down c → (j : ℕ) × (k < j) × (j < s.regcount) × (region_place s j ≡ c)
+  later : (k c : ℕ) → k < s.regcount → step_at s x (region_place s k) ≡ Down c → (j : ℕ) × (k < j) × (j < s.regcount) × (region_place s j ≡ c)
   later k c l e =
       let d : Downward s x (region_place s k) c = subst (Shown s x (region_place s k)) e (shown s x (region_place s k)) in
       let o = (owned_is _ _ _ _ _ d.holds).0 in
@@ -35,11 +33,11 @@ module _ (s : Space) (flags : List ℕ) (p : Passes s flags) (x : ℕ) where
       (d.place, omega arith, d.below, d.is)
 
   steps : (d e k : ℕ) → k < s.regcount
-      → ((c : ℕ) → step_at s x (region_place s k) ≡ next.Down c → look s x d c ≡ look s x e c)
+      → ((c : ℕ) → step_at s x (region_place s k) ≡ Down c → look s x d c ≡ look s x e c)
       → (n : Next) → step_at s x (region_place s k) ≡ n → follow (look s x d) n ≡ follow (look s x e) n
-  steps d e k l deeper (next.Down c) q = deeper c q
-  steps d e k l deeper (next.Mapping m) q = refl
-  steps d e k l deeper (next.Refused why) q = refl
+  steps d e k l deeper (Down c) q = deeper c q
+  steps d e k l deeper (Here m) q = refl
+  steps d e k l deeper (Refused why) q = refl
 
   -- two depths that reach the end of the list find the same
   pub enough : (d e k : ℕ) → k < s.regcount → s.regcount ≤ k + d → s.regcount ≤ k + e → look s x d (region_place s k) ≡ look s x e (region_place s k)

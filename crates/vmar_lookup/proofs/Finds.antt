@@ -6,6 +6,7 @@ use mathlib.Core.List.{List}
 use mathlib.Core.Logic.{⊎_elim}
 use native.Mathlib.Omega.{arith}
 use borrow.Author.Tests.{lt-ltb, le-ltb}
+use Rattle.std.specs.Prelude.{Ok}
 use Rattle.paging.proofs.Cases.{same?, below?, clash}
 use Rattle.scan.specs.Scan.{first}
 use Rattle.scan.proofs.Scans.{first_passes, before_first}
@@ -15,10 +16,8 @@ use Rattle.space.specs.Passes.{Passes}
 use Rattle.space.specs.declared.Space.{Space}
 use Rattle.space.proofs.Ranges.{apart, inner, holds, holds_of}
 use Rattle.space.proofs.Facts.{region_place_lem, mapping_place_lem, child_in}
-use Rattle.vmar_lookup.specs.Lookup.{owned, holds_child, child_holding, holds_mapping, step_at, follow, look}
+use Rattle.vmar_lookup.specs.Lookup.{owned, holds_child, child_holding, holds_mapping, step_at, follow, look, Down, Here}
 use Rattle.vmar_lookup.specs.Laws.{Holds}
-use Rattle.vmar_lookup.specs.declared.Found.TheVariants as found
-use Rattle.vmar_lookup.specs.declared.Next.TheVariants as next
 use Rattle.vmar_lookup.proofs.Lookups.{some_depth, downward, at_mapping_lem, owned_is, owned_of}
 use Rattle.vmar_lookup.proofs.Depth.{one_place, enough}
 
@@ -61,7 +60,7 @@ module _ (s : Space) (flags : List ℕ) (p : Passes s flags) (x : ℕ) where
 
   -- a lookup in the parent goes on in the child that holds the address
   through : (j k : ℕ) → j < s.regcount → k < s.regcount → (region_at s (region_place s k)).parent ≡ region_place s j → contains (region_at s (region_place s j)).addr (region_at s (region_place s j)).size x ≡ true
-      → contains (region_at s (region_place s k)).addr (region_at s (region_place s k)).size x ≡ true → step_at s x (region_place s j) ≡ next.Down (region_place s k)
+      → contains (region_at s (region_place s k)).addr (region_at s (region_place s k)).size x ≡ true → step_at s x (region_place s j) ≡ Down (region_place s k)
   through j k a b e c d =
       sym (downward s x (region_place s j) c k
       (the_first (holds_child s (region_place s j) x) s.regcount k b (owned_of _ _ _ _ _ e d) (λ i l h. one_child (region_place s j) i k l b h (owned_of _ _ _ _ _ e d)))
@@ -114,7 +113,7 @@ module _ (s : Space) (flags : List ℕ) (p : Passes s flags) (x : ℕ) where
       (below? (mapping_place s j) (mapping_place s k))
 
   -- in its own region a mapping is found: no child holds the address, and no other mapping
-  own_step : (m k : ℕ) → Holds s x m → k < s.mapcount → mapping_place s k ≡ m → step_at s x (mapping_at s m).region ≡ next.Mapping m
+  own_step : (m k : ℕ) → Holds s x m → k < s.mapcount → mapping_place s k ≡ m → step_at s x (mapping_at s m).region ≡ Here m
   own_step m k h l e =
       let r = (mapping_at s m).region in
       let region = p.inner.region m h.slot h.live in
@@ -133,7 +132,7 @@ module _ (s : Space) (flags : List ℕ) (p : Passes s flags) (x : ℕ) where
       subst (λ (i : ℕ). owned (mapping_at s i).region r (mapping_at s i).addr (mapping_at s i).size x ≡ true) (sym e) (owned_of _ _ _ _ _ refl h.holds) in
       let here : first (holds_mapping s r x) 0 s.mapcount ≡ k =
       the_first (holds_mapping s r x) s.mapcount k l own (λ j a c. one_mapping_place j k a l (one_mapping r j k a l c own)) in
-      sym (at_mapping_lem s x r up (child_holding s r x) refl (le-ltb _ _ none) k here (lt-ltb _ _ l)) ∙ ap (λ (i : ℕ). next.Mapping i) e
+      sym (at_mapping_lem s x r up (child_holding s r x) refl (le-ltb _ _ none) k here (lt-ltb _ _ l)) ∙ ap (λ (i : ℕ). Here i) e
     where
       one_mapping_place : (j i : ℕ) → j < s.mapcount → i < s.mapcount → mapping_place s j ≡ mapping_place s i → j ≡ i
       one_mapping_place j i a b q =
@@ -143,7 +142,7 @@ module _ (s : Space) (flags : List ℕ) (p : Passes s flags) (x : ℕ) where
           (below? j i)
 
   -- the mapping that holds the address is found from every live region that holds it
-  pub finds : (r m : ℕ) → r < 32 → is_region s r ≡ true → contains (region_at s r).addr (region_at s r).size x ≡ true → Holds s x m → look s x 32 r ≡ found.Mapping m
+  pub finds : (r m : ℕ) → r < 32 → is_region s r ≡ true → contains (region_at s r).addr (region_at s r).size x ≡ true → Holds s x m → look s x 32 r ≡ Ok m
   finds r m l a c h =
       let own = p.inner.region m h.slot h.live in
       let q = (mapping_at s m).region in

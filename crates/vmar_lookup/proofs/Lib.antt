@@ -2,3 +2,4 @@ pub mod Lookups
 pub mod Depth
 pub mod Finds
 pub mod Laws
+pub mod Holding

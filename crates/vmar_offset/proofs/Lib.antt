@@ -1,3 +1,3 @@
 pub mod Offsets
 pub mod Found
-pub mod Free
+pub mod Ends

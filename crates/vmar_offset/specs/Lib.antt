@@ -1,2 +1,2 @@
 pub mod Offset
-pub mod Fit
+pub mod Ends

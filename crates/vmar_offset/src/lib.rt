@@ -1,247 +1,151 @@
 // zircon-object/src/vm/vmar.rs: `determine_offset`, `find_free_area` and `test_map`, on a space that passes its check; and
 // which slots a call takes: that of an id, the lowest free one.
+//
+// `LiveIn` is of a space and a slot, `Passes` of a space and its page flags: no one value could have them as its type's.
 #![tactic(auto)]
 
-ghost use Rattle.std.specs.Prelude.{◌≡◌, ◌+◌, ◌^◌, ◌<◌, length};
-ghost use Rattle.scan.specs.Scan.{some};
+ghost use Rattle.std.specs.Prelude.{◌≡◌, ℕ, ◌+◌, ◌*◌, ◌^◌, ◌<◌, ◌≤◌, true, length, Bool};
+ghost use Rattle.scan.specs.Scan.{below};
+ghost use Rattle.space.specs.Space.{region_at};
 ghost use Rattle.space.specs.Passes.{LiveIn};
-ghost use Rattle.vmar_offset.specs.Offset.{has_id, slot_of, free_region, free_mapping, child_meets, mapping_meets, test_map, find_free_area, determine_offset};
-ghost use Rattle.vmar_offset.specs.Fit.{meets_at, fits};
+ghost use Rattle.vmar_offset.specs.Offset.{has_id, slot_of, free_region, free_mapping, meets, test_map, taken, find_free_area, determine_offset};
+ghost use Rattle.vmar_offset.specs.Ends.{EndsIn, first_end};
 
-use common::defs::VirtAddr;
 use refusal::Refusal;
-use space::{MAPPINGS, Mapping, REGIONS, Region, Space};
-use space_parts::PARTS;
-
-// An offset into a region, or none: the Rust's `Option<usize>`.
-#[derive(Clone, Copy)]
-pub enum Offset {
-    Some(u64),
-    None,
-}
-
-#[derive(Clone, Copy)]
-pub enum OffsetResult {
-    Ok(u64),
-    Refused(Refusal),
-}
+use space::{Part, Region, Space};
 
 // Whether g is the live region of this id.
-fn has_id(g: Region, id: u64) -> bool
-    ensures { result ≡ has_id g id }
+#[tactic(auto, using(std::proofs::lemmas::Bool::Decides::nat_tests), unfolding(crate::specs::Offset::has_id))]
+fn has_id(g: &Region, id: u64) -> bool
+    ensures { result ≡ has_id g.now id }
 {
-    if !g.live {
-        return false;
-    }
-    g.id == id
+    g.live && g.id == id
 }
 
-// The slot of the live region of this id, 32 where there is none.
-pub fn slot_of(s: Space, id: u64) -> usize
-    ensures { result ≡ slot_of s id }
+// The slot of the live region of this id.
+pub fn slot_of(s: &Space, id: u64) -> Option<usize>
+    ensures { result ≡ below 32 (slot_of s.now id) }
 {
-    let mut i = 0;
-    while i < REGIONS {
-        let g = s.regions[i];
-        if has_id(g, id) {
-            return i;
-        }
-        i += 1;
-    }
-    i
+    s.regions.iter().position(|g| has_id(g, id))
 }
 
-// The lowest free region slot, 32 where there is none.
-pub fn free_region(s: Space) -> usize
-    ensures { result ≡ free_region s }
+// The lowest free region slot. A search over any `Part` would be called with the array that its name tells here.
+pub fn free_region(s: &Space) -> Option<usize>
+    ensures { result ≡ below 32 (free_region s.now) }
 {
-    let mut i = 0;
-    while i < REGIONS {
-        let g = s.regions[i];
-        if !g.live {
-            return i;
-        }
-        i += 1;
-    }
-    i
+    s.regions.iter().position(|g| !g.live)
 }
 
-// The lowest free mapping slot, 64 where there is none.
-pub fn free_mapping(s: Space) -> usize
-    ensures { result ≡ free_mapping s }
+// The lowest free mapping slot.
+pub fn free_mapping(s: &Space) -> Option<usize>
+    ensures { result ≡ below 64 (free_mapping s.now) }
 {
-    let mut i = 0;
-    while i < MAPPINGS {
-        let m = s.mappings[i];
-        if !m.live {
-            return i;
-        }
-        i += 1;
-    }
-    i
+    s.mappings.iter().position(|m| !m.live)
 }
 
-// Whether g is a child of region r that overlaps the range.
-pub fn child_meets(g: Region, r: usize, begin: u64, len: u64) -> bool
-    ensures { result ≡ child_meets g r begin len }
+// Whether p is of region r and overlaps the range. Most parts end before a place that is tried: that is tested first.
+#[tactic(auto, using(std::proofs::lemmas::Bool::Decides::nat_tests), unfolding(crate::specs::Offset::meets, space::specs::Range::overlap))]
+pub fn meets<P: Part>(p: P, r: usize, begin: u64, len: u64) -> bool
+    ensures { result ≡ meets (P.is_live p) (P.owner p) (P.addr p) (P.size p) r begin len }
 {
-    if !g.live {
-        return false;
-    }
-    if g.parent != r {
-        return false;
-    }
-    space::overlap(g.addr, g.size, begin, len)
+    !space::sum_le(p.addr(), p.size(), begin)
+        && !space::sum_le(begin, len, p.addr())
+        && p.owner() == r
+        && p.is_live()
 }
 
-// Whether m is a mapping of region r that overlaps the range.
-pub fn mapping_meets(m: Mapping, r: usize, begin: u64, len: u64) -> bool
-    ensures { result ≡ mapping_meets m r begin len }
+// Whether something of this length can be made at the offset of region r.
+#[tactic(auto, using(std::proofs::lemmas::Bool::Decides::nat_tests), unfolding(crate::specs::Offset::test_map))]
+pub fn test_map(s: &Space, r: usize, offset: u64, len: u64) -> bool
+    requires { LiveIn s.now r }
+    ensures { result ≡ test_map s.now r offset len }
 {
-    if !m.live {
-        return false;
-    }
-    if m.region != r {
-        return false;
-    }
-    space::overlap(m.addr, m.size, begin, len)
-}
-
-// Whether [begin, end) overlaps a child or a mapping of region r. Most parts end before a place that is tried: that is tested first.
-fn is_met(
-    owners: &[usize],
-    begins: &[u64],
-    ends: &[u64],
-    r: usize,
-    begin: VirtAddr,
-    end: VirtAddr,
-) -> bool
-    requires { (length owners.now ≡ 96) × (length begins.now ≡ 96) × (length ends.now ≡ 96) }
-    ensures { result ≡ some (meets_at owners.now begins.now ends.now r begin end) 0 96 }
-{
-    let mut i = 0;
-    while i < PARTS {
-        if begin < ends[i] {
-            if begins[i] < end {
-                if owners[i] == r {
-                    return true;
-                }
-            }
-        }
-        i += 1;
-    }
-    false
-}
-
-// Whether something of this length can be made at the offset of region r, whose record is g.
-fn fits(
-    owners: &[usize],
-    begins: &[u64],
-    ends: &[u64],
-    r: usize,
-    g: Region,
-    offset: u64,
-    len: u64,
-) -> bool
-    requires { (length owners.now ≡ 96) × (length begins.now ≡ 96) × (length ends.now ≡ 96) × (g.addr + g.size < 2 ^ 64) }
-    ensures { result ≡ fits owners.now begins.now ends.now r g offset len }
-{
+    let g = s.regions[r];
     if !space::sum_le(offset, len, g.size) {
         return false;
     }
     let begin = g.addr + offset;
-    !is_met(owners, begins, ends, r, begin, begin + len)
+    if s.regions.iter().any(|g| meets(*g, r, begin, len)) {
+        return false;
+    }
+    !s.mappings.iter().any(|m| meets(*m, r, begin, len))
 }
 
-// Whether something of this length can be made at the offset of region r.
-pub fn test_map(s: Space, r: usize, offset: u64, len: u64) -> bool
-    requires { LiveIn s r }
-    ensures { result ≡ test_map s r offset len }
+// Whether the search takes the offset: it is a multiple of the alignment, and something of this length can be made there.
+#[tactic(auto, using(std::proofs::lemmas::Bool::Decides::nat_tests))]
+fn is_taken(s: &Space, r: usize, offset: u64, len: u64, align: u64) -> bool
+    requires { LiveIn s.now r }
+    ensures { result ≡ taken s.now r len align offset }
 {
-    let g = s.regions[r];
-    let parts = space_parts::parts_of(s);
-    let owners = parts.owners;
-    let begins = parts.begins;
-    let ends = parts.ends;
-    fits(&owners, &begins, &ends, r, g, offset, len)
+    vm::check_aligned(offset, align) && test_map(s, r, offset, len)
+}
+
+// The first end of a listed part of region r at which something of this length can be made.
+fn first_end<P: Part>(
+    s: &Space,
+    r: usize,
+    parts: &[P],
+    list: &[usize],
+    len: u64,
+    align: u64,
+) -> Option<u64>
+    requires { LiveIn s.now r × EndsIn P.owner P.addr P.size parts.now list.now r (region_at s.now r).addr }
+    ensures { (d : P) → result ≡ first_end P.owner P.addr P.size parts.now list.now d s.now r len align }
+{
+    let base = s.regions[r].addr;
+    for slot in list {
+        let p = parts[*slot];
+        if p.owner() == r {
+            let offset = p.addr() + p.size() - base;
+            if is_taken(s, r, offset, len, align) {
+                return Some(offset);
+            }
+        }
+    }
+    None
 }
 
 // The first offset at which something of this length can be made: 0, the ends of children, the ends of mappings.
-fn find_free_area(s: Space, r: usize, len: u64, align: u64) -> Offset
-    requires { LiveIn s r }
-    ensures { result ≡ find_free_area s r len align }
+#[tactic(auto, using(std::proofs::lemmas::Bool::Decides::nat_tests), unfolding(crate::specs::Offset::find_free_area))]
+fn find_free_area(s: &Space, r: usize, len: u64, align: u64) -> Option<u64>
+    requires { LiveIn s.now r }
+    ensures { result ≡ find_free_area s.now r len align }
 {
-    let g = s.regions[r];
-    let parts = space_parts::parts_of(s);
-    let owners = parts.owners;
-    let begins = parts.begins;
-    let ends = parts.ends;
-    if fits(&owners, &begins, &ends, r, g, 0, len) {
-        return Offset::Some(0);
+    if test_map(s, r, 0, len) {
+        return Some(0);
     }
-    let reglist = s.reglist;
-    let mut k = 0;
-    while k < s.regcount {
-        let slot = reglist[k];
-        let child = s.regions[slot];
-        k += 1;
-        if child.parent != r {
-            continue;
-        }
-        let offset = child.addr + child.size - g.addr;
-        if !vm::check_aligned(offset, align) {
-            continue;
-        }
-        if fits(&owners, &begins, &ends, r, g, offset, len) {
-            return Offset::Some(offset);
-        }
+    let children = &s.reglist[..s.regcount];
+    if let Some(at) = first_end(s, r, &s.regions, children, len, align) {
+        return Some(at);
     }
-    let maplist = s.maplist;
-    let mut j = 0;
-    while j < s.mapcount {
-        let slot = maplist[j];
-        let m = s.mappings[slot];
-        j += 1;
-        if m.region != r {
-            continue;
-        }
-        let offset = m.addr + m.size - g.addr;
-        if !vm::check_aligned(offset, align) {
-            continue;
-        }
-        if fits(&owners, &begins, &ends, r, g, offset, len) {
-            return Offset::Some(offset);
-        }
-    }
-    Offset::None
+    let mappings = &s.maplist[..s.mapcount];
+    first_end(s, r, &s.mappings, mappings, len, align)
 }
 
-pub fn determine_offset(s: Space, r: usize, offset: Offset, len: u64, align: u64) -> OffsetResult
-    requires { LiveIn s r }
-    ensures { result ≡ determine_offset s r offset len align }
+// The offset asked for, or the first at which there is room.
+#[tactic(auto, using(std::proofs::lemmas::Bool::Decides::nat_tests), unfolding(crate::specs::Offset::determine_offset))]
+pub fn determine_offset(
+    s: &Space,
+    r: usize,
+    offset: Option<u64>,
+    len: u64,
+    align: u64,
+) -> Result<u64, Refusal>
+    requires { LiveIn s.now r }
+    ensures { result ≡ determine_offset s.now r offset len align }
 {
     if !vm::check_aligned(len, align) {
-        return OffsetResult::Refused(Refusal::InvalidArgs);
+        return Err(Refusal::InvalidArgs);
     }
-    match offset {
-        Offset::Some(at) => {
-            if !vm::check_aligned(at, align) {
-                return OffsetResult::Refused(Refusal::InvalidArgs);
-            }
-            if !test_map(s, r, at, len) {
-                return OffsetResult::Refused(Refusal::InvalidArgs);
-            }
-            OffsetResult::Ok(at)
-        }
-        Offset::None => {
-            let g = s.regions[r];
-            if g.size < len {
-                return OffsetResult::Refused(Refusal::InvalidArgs);
-            }
-            match find_free_area(s, r, len, align) {
-                Offset::Some(at) => OffsetResult::Ok(at),
-                Offset::None => OffsetResult::Refused(Refusal::NoMemory),
-            }
-        }
+    if let Some(at) = offset {
+        return if is_taken(s, r, at, len, align) {
+            Ok(at)
+        } else {
+            Err(Refusal::InvalidArgs)
+        };
     }
+    if s.regions[r].size < len {
+        return Err(Refusal::InvalidArgs);
+    }
+    find_free_area(s, r, len, align).ok_or(Refusal::NoMemory)
 }

@@ -1,4 +1,5 @@
 -- The call by what its tests show.
+use Rattle.std.specs.Prelude.{Result, Ok, Err, Option}
 use Prim.Native.Nat.{ℕ, ◌+◌, ◌*◌, ◌/◌, ◌≤◌, ◌<◌}
 use mathlib.Core.Path.{◌≡◌, sym}
 use mathlib.Core.Bool.{Bool, true, false}
@@ -13,12 +14,8 @@ use Rattle.space.specs.Space.{region_at, with_mapping}
 use Rattle.space.specs.declared.Mapping.{Mapping}
 use Rattle.space.specs.declared.Space.{Space}
 use Rattle.vmar_offset.specs.Offset.{slot_of, test_map}
-use Rattle.vmar_offset.specs.declared.Offset.{Offset}
-use Rattle.vmar_map.specs.declared.MapExtResult.TheVariants as result
 use Rattle.vmar_map.specs.Map.{filled, tested, mapping, placed}
 use Rattle.vmar_unmap.specs.Unmap.{State, CutDone}
-use Rattle.vmar_unmap.specs.declared.CutResult.{CutResult}
-use Rattle.vmar_unmap.specs.declared.CutResult.TheVariants as cut
 use Rattle.vmar_overwrite.specs.Overwrite.{OverwriteDone, refused, is_short, after_cut, cut_for, slot_for, replaced, uncut, overlaid, at_offset, by_offset, in_region, after_tests, overwritten}
 
 pub too_long : (len slot : ℕ) → 0x200000 < len → true ≡ is_short len slot
@@ -30,12 +27,12 @@ unfolding is_short
 by_slot len slot l = rw (le-ltb 0x200000 len l)
 
 -- after the cut
-module _ (st : State) (slot : ℕ) (m : Mapping) (fl : ℕ) (d : CutResult) where
-  pub put_made : (s : Space) (f : List ℕ) → s ≡ with_mapping st.space slot m → f ≡ filled st.flags (slot * 512) (m.size / 4096) fl → d ≡ cut.Done
-      → ◌≡◌ {A = OverwriteDone} (record { result = result.Mapped m.addr; state = record { space = s; flags = f; pool = st.pool; used = st.used } }) (after_cut st slot m fl d)
+module _ (st : State) (slot : ℕ) (m : Mapping) (fl : ℕ) (d : Result (Unit {0}) Refusal) where
+  pub put_made : (s : Space) (f : List ℕ) → s ≡ with_mapping st.space slot m → f ≡ filled st.flags (slot * 512) (m.size / 4096) fl → d ≡ Ok tt
+      → ◌≡◌ {A = OverwriteDone} (record { result = Ok m.addr; state = record { space = s; flags = f; pool = st.pool; used = st.used } }) (after_cut st slot m fl d)
   put_made s f e g q = rw (e, g, q)
 
-  pub put_refused : (why : Refusal) → d ≡ cut.Refused why → refused st why ≡ after_cut st slot m fl d
+  pub put_refused : (why : Refusal) → d ≡ Err why → refused st why ≡ after_cut st slot m fl d
   put_refused why q = rw q
 
 module _ (base : ℕ) (st : State) (m : Mapping) (fl : ℕ) where
@@ -77,7 +74,7 @@ module _ (base : ℕ) (st : State) (r off vmo at len p fl : ℕ) where
       unfolding at_offset
       at_address c = rw (a, b, c)
 
-module _ (base : ℕ) (st : State) (id : ℕ) (o : Offset) (vmo at len p fl : ℕ) where
+module _ (base : ℕ) (st : State) (id : ℕ) (o : Option ℕ) (vmo at len p fl : ℕ) where
   module _ (r : ℕ) (q : r ≡ slot_of st.space id) where
     pub dead : r ≡ 32 → refused st BadState ≡ in_region base st id o vmo at len p fl
     unfolding in_region

@@ -1,4 +1,5 @@
 -- How a cut ends, and that the list of mappings has room for one more after it.
+use Rattle.std.specs.Prelude.{Ok}
 use Prim.Native.Nat.{ℕ, zero, suc, ◌+◌, ◌-◌, ◌*◌, ◌≤◌, ◌<◌}
 use mathlib.Core.Path.{◌≡◌, refl, sym, ◌∙◌, ap, subst}
 use mathlib.Core.Bool.{Bool, true, false}
@@ -12,8 +13,10 @@ use Rattle.paging.specs.Choice.{pick}
 use Rattle.paging.proofs.Cases.{below?, no_truth, clash}
 use Rattle.refusal.specs.declared.Refusal.{Refusal}
 use Rattle.refusal.specs.declared.Refusal.TheVariants.{InvalidArgs, NoFrames, NoSlot, ChildDead}
-use Rattle.scan.specs.Scan.{first, some}
-use Rattle.scan.proofs.Scans.{tell, first_of_is, first_of_from, first_of_before}
+use Rattle.std.proofs.Common.{None}
+use Rattle.scan.specs.Scan.{first, some, below}
+use Rattle.scan.proofs.Found.{below_none}
+use Rattle.scan.proofs.Scans.{tell, first_none, first_of_is, first_of_from, first_of_before}
 use Rattle.scan.proofs.Pigeons.{fewer}
 use Rattle.space.specs.Space.{is_mapping, mapping_at, mapping_place}
 use Rattle.space.specs.Passes.{Passes}
@@ -29,7 +32,6 @@ use Rattle.vmar_prune.specs.Piece.{after}
 use Rattle.vmar_prune.specs.Prune.{packed, pruned, split_slot, cut_space}
 use Rattle.vmar_prune.proofs.Parts.{cut_whole, cut_split}
 use Rattle.vmar_unmap.specs.Unmap.{State, CutDone, refused, free_frames, cut_state, partly_at, has_dead, cut_range}
-use Rattle.vmar_unmap.specs.declared.CutResult.TheVariants as cut
 use Rattle.vmar_unmap.proofs.Calls.{range_partly, range_dead, range_short, range_frames, range_cut}
 use Rattle.vmar_overwrite.specs.Overwrite.{second_free, new_slot, is_short, slot_for}
 
@@ -37,7 +39,7 @@ use Rattle.vmar_overwrite.specs.Overwrite.{second_free, new_slot, is_short, slot
 pub data RangeEnds (base : ℕ) (st : State) (r b e : ℕ) (short : Bool) : CutDone → Type 0 where
   refusal : (why : Refusal) → RangeEnds base st r b e short (refused st why)
   cuts : some (partly_at st.space r b e) 0 32 ≡ false → short ≡ false → leb (4 * non_empty (unmap_cuts st.space r b e)) (free_frames st) ≡ true
-      → RangeEnds base st r b e short (record { result = cut.Done; state = cut_state base st (marked st.space r b e) (unmap_cuts st.space r b e) r b e })
+      → RangeEnds base st r b e short (record { result = (Ok tt); state = cut_state base st (marked st.space r b e) (unmap_cuts st.space r b e) r b e })
 
 module _ (base : ℕ) (st : State) (r b e : ℕ) (short : Bool) where
   pub range_ends : RangeEnds base st r b e short (cut_range base st r b e short)
@@ -59,12 +61,12 @@ module _ (base : ℕ) (st : State) (r b e : ℕ) (short : Bool) where
       (tell (some (partly_at st.space r b e) 0 32))
 
   -- a cut that is done had slots, and left the space without the range
-  done_by : {out : CutDone} → RangeEnds base st r b e short out → out.result ≡ cut.Done
+  done_by : {out : CutDone} → RangeEnds base st r b e short out → out.result ≡ Ok tt
       → (short ≡ false) × (out.state.space ≡ cut_space st.space (marked st.space r b e) r b e)
   done_by (refusal why) q = let z : ◌≡◌ {A = ℕ} 0 1 = cc in absurd (omega arith)
   done_by (cuts p z n) q = (z, refl)
 
-  pub range_done : (cut_range base st r b e short).result ≡ cut.Done
+  pub range_done : (cut_range base st r b e short).result ≡ Ok tt
       → (short ≡ false) × ((cut_range base st r b e short).state.space ≡ cut_space st.space (marked st.space r b e) r b e)
   range_done q = done_by range_ends q
 
@@ -175,6 +177,18 @@ pub slot_second : (s : Space) (r b e i : ℕ) → i ≡ split_slot s r b e → i
 unfolding new_slot
 slot_second s r b e i q l = rw (sym q, lt-ltb i 64 l)
 
+-- where no slot is free, it has none
+pub no_new_slot : (s : Space) (r b e : ℕ) → None ≡ below 64 (free_mapping s) → below 64 (new_slot s r b e) ≡ None
+no_new_slot s r b e n =
+    let full : 64 ≤ free_mapping s = below_none 64 (free_mapping s) (sym n) in
+    ⊎_elim
+    (λ (l : split_slot s r b e < 64).
+    let second = first_none (is_free_mapping s) (free_mapping s + 1) 64 (omega arith) in
+    let past : 64 ≤ second_free s = omega arith in
+    rw (sym (slot_second s r b e (split_slot s r b e) refl l), le-ltb (second_free s) 64 past))
+    (λ (l : 64 ≤ split_slot s r b e). rw (sym (slot_alone s r b e (split_slot s r b e) refl l), le-ltb (free_mapping s) 64 full))
+    (below? (split_slot s r b e) 64)
+
 -- where it has one, a split has one too
 pub split_room : (s : Space) (r b e : ℕ) → new_slot s r b e < 64 → split_slot s r b e < 64 → free_mapping s < 64
 split_room s r b e l h = let q = slot_second s r b e (split_slot s r b e) refl h in let t = (two_free s (omega arith)).low in omega arith
@@ -200,7 +214,7 @@ cut_room s f p marks r b e l =
 
 -- after a cut that is done the mapping to be has a slot, the list room for it, and the slot pages enough
 pub cut_fits : (base : ℕ) (st : State) → Passes st.space st.flags → (m : Mapping) (slot : ℕ) → slot ≡ slot_for st.space m → (short : Bool) → short ≡ is_short m.size slot
-    → (c : CutDone) → c ≡ cut_range base st m.region m.addr (m.addr + m.size) short → c.result ≡ cut.Done
+    → (c : CutDone) → c ≡ cut_range base st m.region m.addr (m.addr + m.size) short → c.result ≡ Ok tt
     → (slot < 64) × (c.state.space.mapcount < 64) × (m.size ≤ 0x200000)
 cut_fits base st p m slot q short h c e d =
     let z = range_done base st m.region m.addr (m.addr + m.size) short (sym (ap (λ (x : CutDone). x.result) e) ∙ d) in

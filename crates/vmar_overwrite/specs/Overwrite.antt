@@ -3,6 +3,7 @@
 -- non-empty mapping it will cut or drop, those in destroyed children included; otherwise 8. A split needs a slot free before the call and a new mapping one more, after
 -- it"; "slots freed by a call do not count for that call"; "A refusal gives value 0 and changes nothing anywhere". Where nothing is met nothing is cut, and the call is
 -- that of vmar_map.
+use Rattle.std.specs.Prelude.{Result, Ok, Err, Option, Some, None}
 use Rattle.std.specs.Prelude.{ℕ, ◌+◌, ◌*◌, ◌/◌, Bool, true, List, leb, ltb, eqb}
 use Rattle.paging.specs.Choice.{pick}
 use Rattle.common.specs.Flags.{known_page}
@@ -14,31 +15,22 @@ use Rattle.space.specs.Space.{region_at, with_mapping}
 use Rattle.space.specs.declared.Mapping.{Mapping}
 use Rattle.space.specs.declared.Space.{Space}
 use Rattle.vmar_offset.specs.Offset.{slot_of, is_free_mapping, free_mapping, test_map}
-use Rattle.vmar_offset.specs.declared.Offset.{Offset}
-use Rattle.vmar_offset.specs.declared.Offset.TheVariants as offset
 use Rattle.vmar_map.specs.Map.{MapDone, filled, tested, mapping, placed}
-use Rattle.vmar_map.specs.declared.MapExtResult.{MapExtResult}
-use Rattle.vmar_map.specs.declared.MapExtResult.TheVariants as result
-use Rattle.vmar_map.specs.declared.Tested.{Tested}
-use Rattle.vmar_map.specs.declared.Tested.TheVariants as test
 use Rattle.vmar_prune.specs.Prune.{split_slot}
-use Rattle.vmar_unmap.specs.Unmap.{State, CutDone, cut_range}
-use Rattle.vmar_unmap.specs.declared.CutResult.{CutResult}
-use Rattle.vmar_unmap.specs.declared.CutResult.TheVariants as cut
-use Rattle.vmar_overwrite.specs.declared.OverwriteOutcome.{OverwriteOutcome}
+use Rattle.vmar_unmap.specs.Unmap.{State, state, CutDone, cut_range}
 
 -- the answer, and what is there afterwards
 pub record OverwriteDone : Type 0 where
-  pub result : MapExtResult
+  pub result : Result ℕ Refusal
   pub state : State
 
--- what a function hands back, and the flags and the pool that it left
-abbrev pub done : OverwriteOutcome → List ℕ → List ℕ → OverwriteDone
-done x f p = record { result = x.result; state = record { space = x.space; flags = f; pool = p; used = x.used } }
+-- what a function hands back, and the space, the flags, the pool and the frames in use that it left
+abbrev pub done : Result ℕ Refusal → Space → List ℕ → List ℕ → ℕ → OverwriteDone
+done x s f p u = record { result = x; state = state s f p u }
 
 -- a refusal changes nothing
 abbrev pub refused : State → Refusal → OverwriteDone
-refused st why = record { result = result.Refused why; state = st }
+refused st why = record { result = Err why; state = st }
 
 -- the lowest slot but one that is free before the call
 abbrev pub second_free : Space → ℕ
@@ -62,9 +54,9 @@ with_new st slot m flags = record {
 }
 
 -- after the cut, unless that is refused; the answer is the address
-abbrev pub after_cut : State → ℕ → Mapping → ℕ → CutResult → OverwriteDone
-after_cut st slot m flags cut.Done = record { result = result.Mapped m.addr; state = with_new st slot m flags }
-after_cut st slot m flags (cut.Refused why) = refused st why
+abbrev pub after_cut : State → ℕ → Mapping → ℕ → Result (Unit {0}) Refusal → OverwriteDone
+after_cut st slot m flags (Ok _) = record { result = Ok m.addr; state = with_new st slot m flags }
+after_cut st slot m flags (Err why) = refused st why
 
 -- the range of the mapping m to be is cut out of its region
 abbrev pub cut_for : ℕ → State → Mapping → ℕ → CutDone
@@ -104,22 +96,22 @@ at_offset base st r off vmo at len permissions flags =
     (refused st InvalidArgs)
 
 -- overwriting needs an offset (1)
-abbrev pub by_offset : ℕ → State → ℕ → ℕ → ℕ → ℕ → ℕ → ℕ → Offset → OverwriteDone
-by_offset base st r vmo at len permissions flags (offset.Some off) = at_offset base st r off vmo at len permissions flags
-by_offset base st r vmo at len permissions flags offset.None = refused st InvalidArgs
+abbrev pub by_offset : ℕ → State → ℕ → ℕ → ℕ → ℕ → ℕ → ℕ → Option ℕ → OverwriteDone
+by_offset base st r vmo at len permissions flags (Some off) = at_offset base st r off vmo at len permissions flags
+by_offset base st r vmo at len permissions flags None = refused st InvalidArgs
 
 -- in the region of this id, unless it is dead (5)
-unfoldable pub in_region : ℕ → State → ℕ → Offset → ℕ → ℕ → ℕ → ℕ → ℕ → OverwriteDone
+unfoldable pub in_region : ℕ → State → ℕ → Option ℕ → ℕ → ℕ → ℕ → ℕ → ℕ → OverwriteDone
 in_region base st id o vmo at len permissions flags =
     pick (eqb (slot_of st.space id) 32) (refused st BadState) (by_offset base st (slot_of st.space id) vmo at len permissions flags o)
 
 -- where the first tests, those of vmar_map, find nothing
-abbrev pub after_tests : ℕ → State → ℕ → Offset → ℕ → ℕ → ℕ → ℕ → ℕ → Tested → OverwriteDone
-after_tests base st id o vmo at len permissions flags test.Fine = in_region base st id o vmo at len permissions flags
-after_tests base st id o vmo at len permissions flags (test.Refused why) = refused st why
+abbrev pub after_tests : ℕ → State → ℕ → Option ℕ → ℕ → ℕ → ℕ → ℕ → ℕ → Result (Unit {0}) Refusal → OverwriteDone
+after_tests base st id o vmo at len permissions flags (Ok _) = in_region base st id o vmo at len permissions flags
+after_tests base st id o vmo at len permissions flags (Err why) = refused st why
 
 -- from 11 on
-unfoldable pub overwritten : ℕ → State → ℕ → Offset → ℕ → ℕ → ℕ → ℕ → ℕ → ℕ → Bool → OverwriteDone
+unfoldable pub overwritten : ℕ → State → ℕ → Option ℕ → ℕ → ℕ → ℕ → ℕ → ℕ → ℕ → Bool → OverwriteDone
 overwritten base st id o vmo vmo-len at len permissions flags faults =
     pick (ltb id st.space.nextid)
     (pick (known_page permissions)

@@ -1,4 +1,5 @@
 -- What an overwrite answers: some answer fits, and one that fits is the call's.
+use Rattle.std.specs.Prelude.{Result, Ok, Err, Option, Some, None}
 use Prim.Native.Nat.{ℕ, ◌+◌, ◌*◌, ◌≤◌, ◌<◌}
 use mathlib.Core.Path.{◌≡◌, refl, sym, ◌∙◌, ap, subst}
 use mathlib.Core.Bool.{Bool, true, false}
@@ -19,8 +20,6 @@ use Rattle.space.specs.declared.Mapping.{Mapping}
 use Rattle.space.specs.declared.Space.{Space}
 use Rattle.table_cuts.specs.Cuts.{non_empty}
 use Rattle.vmar_offset.specs.Offset.{slot_of, is_free_mapping, free_mapping, test_map}
-use Rattle.vmar_offset.specs.declared.Offset.{Offset}
-use Rattle.vmar_offset.specs.declared.Offset.TheVariants as asked
 use Rattle.vmar_offset.proofs.Found.{slot_live}
 use Rattle.vmar_laws.specs.Search.{FreeIn}
 use Rattle.vmar_laws.specs.Answers.{Known, Called, ArgumentsRefused}
@@ -30,9 +29,6 @@ use Rattle.vmar_laws.proofs.Answers.{odd_tested, denied_tested, past_tested, fin
 use Rattle.vmar_cuts.specs.Cuts.{unmap_cuts}
 use Rattle.vmar_cuts.proofs.Parts.{overlap_of}
 use Rattle.vmar_map.specs.Map.{mapping, tested}
-use Rattle.vmar_map.specs.declared.MapExtResult.{MapExtResult}
-use Rattle.vmar_map.specs.declared.MapExtResult.TheVariants as result
-use Rattle.vmar_map.specs.declared.Tested.{Tested}
 use Rattle.vmar_map.proofs.Maps as maps
 use Rattle.vmar_unmap.specs.Unmap.{State, CutDone, free_frames, partly_at}
 use Rattle.vmar_unmap.proofs.Calls.{range_partly, range_short, range_frames, range_cut}
@@ -99,7 +95,7 @@ module _ (base : ℕ) (st : State) (passes : Passes st.space st.flags) (r off vm
   abbrev slot : ℕ
   slot = new_slot s r b (b + len)
 
-  abbrev Is : MapExtResult → Type 0
+  abbrev Is : Result ℕ Refusal → Type 0
   Is x = x ≡ (overlaid base st r off vmo at len p fl).result
 
   is : {d : OverwriteDone} → d ≡ overlaid base st r off vmo at len p fl → Is d.result
@@ -125,7 +121,7 @@ module _ (base : ℕ) (st : State) (passes : Passes st.space st.flags) (r off vm
     aligned : multiple b 4096 ≡ true
     aligned = eq-eqb _ _ aim.address
 
-    no_slots : (Fits s r b len → ⊥) → Is (result.Refused NoSlot)
+    no_slots : (Fits s r b len → ⊥) → Is (Err NoSlot)
     no_slots n =
         ⊎_elim
         (λ (t : test_map s r off len ≡ true).
@@ -142,21 +138,21 @@ module _ (base : ℕ) (st : State) (passes : Passes st.space st.flags) (r off vm
         (tell (test_map s r off len))
 
     module _ (F : Fits s r b len) where
-      no_frames : (FreeIn s r b len → ⊥) → free_frames st < 4 * non_empty (unmap_cuts s r b (b + len)) → Is (result.Refused NoFrames)
+      no_frames : (FreeIn s r b len → ⊥) → free_frames st < 4 * non_empty (unmap_cuts s r b (b + len)) → Is (Err NoFrames)
       no_frames n l =
           by_cut (met n) (positive (met n)) _ (range_frames base st r b (b + len) (is_short len slot) none (none_dead passes) (fits_not s r b len F) (lt-leb _ _ l))
 
-      placed : test_map s r off len ≡ true → Is (result.Mapped b)
+      placed : test_map s r off len ≡ true → Is (Ok b)
       placed t =
           let q = free_slot s r b len (free_in s r off len t low live) in
           let l = slot_there s r b (b + len) (omega arith) F.slot.0 F.slot.1 in
           is (ap (uncut st) (maps.made s st.flags r off vmo at len p fl aligned (le-ltb _ _ F.few) (free_mapping s) _ _ refl (ne_eqb (free_mapping s) 64 (λ z. omega arith)) refl refl)
           ∙ nothing_met base st r off vmo at len p fl t)
 
-      cut_out : 4 * non_empty (unmap_cuts s r b (b + len)) ≤ free_frames st → test_map s r off len ≡ false → Is (result.Mapped b)
+      cut_out : 4 * non_empty (unmap_cuts s r b (b + len)) ≤ free_frames st → test_map s r off len ≡ false → Is (Ok b)
       cut_out l t = by_cut t (positive t) _ (range_cut base st r b (b + len) (is_short len slot) none (none_dead passes) (fits_not s r b len F) (le-leb _ _ l))
 
-  range_only : (x : MapExtResult) → RangeAnswers st r b len x → Is x
+  range_only : (x : Result ℕ Refusal) → RangeAnswers st r b len x → Is x
   range_only x (answer.empty z n) = is (empty base st m fl z ∙ something_met base st r off vmo at len p fl (met n))
   range_only x (answer.partly z i k) =
       by_cut (met (λ f. free_uncovered s r b len f i k)) (λ q. omega arith) _
@@ -168,51 +164,51 @@ module _ (base : ℕ) (st : State) (passes : Passes st.space st.flags) (r off vm
       ⊎_elim (λ (t : test_map s r off len ≡ true). placed C F t) (λ (t : test_map s r off len ≡ false). cut_out C F l t) (tell (test_map s r off len))
 
   -- some answer fits
-  abbrev Some : Type 0
-  Some = (x : MapExtResult) × RangeAnswers st r b len x
+  abbrev Fit : Type 0
+  Fit = (x : Result ℕ Refusal) × RangeAnswers st r b len x
 
-  range_free : FreeIn s r b len → Some
+  range_free : FreeIn s r b len → Fit
   range_free f =
       let C : Cuttable s r b len = record { whole = free_uncovered s r b len f; empty = λ z. f } in
       ⊎_elim
-      (λ (F : Fits s r b len). (result.Mapped b, answer.done C F (inl f)))
-      (λ (n : Fits s r b len → ⊥). (result.Refused NoSlot, answer.slots C n))
+      (λ (F : Fits s r b len). (Ok b, answer.done C F (inl f)))
+      (λ (n : Fits s r b len → ⊥). (Err NoSlot, answer.slots C n))
       (fits? s r b len)
 
-  range_met : (FreeIn s r b len → ⊥) → (len ≡ 0 → ⊥) → ((i : ℕ) → Partly s r b (b + len) i → ⊥) → Some
+  range_met : (FreeIn s r b len → ⊥) → (len ≡ 0 → ⊥) → ((i : ℕ) → Partly s r b (b + len) i → ⊥) → Fit
   range_met n z whole =
       let C : Cuttable s r b len = record { whole = whole; empty = λ q. absurd (z q) } in
       ⊎_elim
       (λ (F : Fits s r b len). ⊎_elim
-      (λ (l : free_frames st < 4 * non_empty (unmap_cuts s r b (b + len))). (result.Refused NoFrames, answer.frames C F n l))
-      (λ (l : 4 * non_empty (unmap_cuts s r b (b + len)) ≤ free_frames st). (result.Mapped b, answer.done C F (inr l)))
+      (λ (l : free_frames st < 4 * non_empty (unmap_cuts s r b (b + len))). (Err NoFrames, answer.frames C F n l))
+      (λ (l : 4 * non_empty (unmap_cuts s r b (b + len)) ≤ free_frames st). (Ok b, answer.done C F (inr l)))
       (below? (free_frames st) (4 * non_empty (unmap_cuts s r b (b + len)))))
-      (λ (k : Fits s r b len → ⊥). (result.Refused NoSlot, answer.slots C k))
+      (λ (k : Fits s r b len → ⊥). (Err NoSlot, answer.slots C k))
       (fits? s r b len)
 
-  range_some : Some
+  range_some : Fit
   range_some =
       ⊎_elim
       (λ (t : test_map s r off len ≡ true). range_free (free_in s r off len t low live))
       (λ (t : test_map s r off len ≡ false).
       let n : (FreeIn s r b len → ⊥) = λ f. clash _ (unmet f) t in
       ⊎_elim
-      (λ (z : len ≡ 0). (result.Refused InvalidArgs, answer.empty z n))
+      (λ (z : len ≡ 0). (Err InvalidArgs, answer.empty z n))
       (λ (z : len ≡ 0 → ⊥). ⊎_elim
       (λ (k : some (partly_at s r b (b + len)) 0 32 ≡ true).
       let w = some_partly s r b (b + len) (omega arith) k in
-      (result.Refused InvalidArgs, answer.partly (omega arith) w.0 w.1))
+      (Err InvalidArgs, answer.partly (omega arith) w.0 w.1))
       (λ (k : some (partly_at s r b (b + len)) 0 32 ≡ false). range_met n z (no_partly s r b (b + len) (omega arith) k))
       (tell (some (partly_at s r b (b + len)) 0 32)))
       (same? len 0))
       (tell (test_map s r off len))
 
 -- the whole call
-module _ (base : ℕ) (st : State) (passes : Passes st.space st.flags) (id : ℕ) (o : Offset) (vmo v at len p fl : ℕ) (faults : Bool) where
+module _ (base : ℕ) (st : State) (passes : Passes st.space st.flags) (id : ℕ) (o : Option ℕ) (vmo v at len p fl : ℕ) (faults : Bool) where
   abbrev q : ℕ
   q = slot_of st.space id
 
-  abbrev All : MapExtResult → Type 0
+  abbrev All : Result ℕ Refusal → Type 0
   All x = OverwriteAnswers st id o v at len p fl faults x
 
   abbrev Call : OverwriteDone
@@ -243,7 +239,7 @@ module _ (base : ℕ) (st : State) (passes : Passes st.space st.flags) (id : ℕ
       (tell (multiple off 4096))
 
   -- from the tests on
-  by_tests : id < st.space.nextid → Known p fl → {d : Tested} → d ≡ tested v at len p fl faults → after_tests base st id o vmo at len p fl d ≡ Call
+  by_tests : id < st.space.nextid → Known p fl → {d : (Result (Unit {0}) Refusal)} → d ≡ tested v at len p fl faults → after_tests base st id o vmo at len p fl d ≡ Call
   by_tests h k e = ap (after_tests base st id o vmo at len p fl) e ∙ known_all base st id o vmo at len p fl v faults (lt-ltb _ _ h) k.0 k.1
 
   refused_only : (why : Refusal) → ArgumentsRefused st.space id v at len p fl faults why → refused st why ≡ Call
@@ -263,17 +259,17 @@ module _ (base : ℕ) (st : State) (passes : Passes st.space st.flags) (id : ℕ
     to_offset : by_offset base st q vmo at len p fl o ≡ Call
     to_offset = let l = A.live in alive base st id o vmo at len p fl q refl (λ z. omega arith) ∙ by_tests A.issued A.known (fine_tested v at len p fl faults A.fine)
 
-    to_place : {x : Offset} → o ≡ x → by_offset base st q vmo at len p fl x ≡ Call
+    to_place : {x : (Option ℕ)} → o ≡ x → by_offset base st q vmo at len p fl x ≡ Call
     to_place e = ap (by_offset base st q vmo at len p fl) (sym e) ∙ to_offset
 
-    to_range : (off : ℕ) → o ≡ asked.Some off → Aimed st.space q off len → overlaid base st q off vmo at len p fl ≡ Call
+    to_range : (off : ℕ) → o ≡ Some off → Aimed st.space q off len → overlaid base st q off vmo at len p fl ≡ Call
     to_range off e w = at_address base st q off vmo at len p fl (eq-eqb _ _ w.offset) (le-leb _ _ w.inner) (eq-eqb _ _ w.address) ∙ to_place e
 
     home : is_region st.space q ≡ true
     home = let l = A.live in (slot_live st.space id (λ z. omega arith)).1
 
   -- no second answer fits
-  pub only : (x : MapExtResult) → All x → x ≡ Call.result
+  pub only : (x : Result ℕ Refusal) → All x → x ≡ Call.result
   only x (answer.arguments why k) = result_is (refused_only why k)
   only x (answer.unasked A e) = result_is (to_place A e)
   only x (answer.outside A off e n) = result_is (otherwise (aimed? off) n ∙ to_place A e)
@@ -281,23 +277,23 @@ module _ (base : ℕ) (st : State) (passes : Passes st.space st.flags) (id : ℕ
 
   -- one does
   abbrev Fitting : Type 0
-  Fitting = (x : MapExtResult) × All x
+  Fitting = (x : Result ℕ Refusal) × All x
 
-  some_offset : Called st.space id v at len p fl faults → (x : Offset) → o ≡ x → Fitting
-  some_offset A asked.None e = (result.Refused InvalidArgs, answer.unasked A e)
-  some_offset A (asked.Some off) e =
+  some_offset : Called st.space id v at len p fl faults → (x : Option ℕ) → o ≡ x → Fitting
+  some_offset A None e = (Err InvalidArgs, answer.unasked A e)
+  some_offset A (Some off) e =
       ⊎_elim
       (λ (w : Aimed st.space q off len).
       let k = range_some base st passes q off vmo at len p fl A.live (home A) w in
       (k.0, answer.range A off e w k.0 k.1))
-      (λ n. (result.Refused InvalidArgs, answer.outside A off e n.0))
+      (λ n. (Err InvalidArgs, answer.outside A off e n.0))
       (aimed? off)
 
   some_answer : Fitting
   some_answer =
       ⊎_elim
       (λ (A : Called st.space id v at len p fl faults). some_offset A o refl)
-      (λ (k : (why : Refusal) × ArgumentsRefused st.space id v at len p fl faults why). (result.Refused k.0, answer.arguments k.0 k.1))
+      (λ (k : (why : Refusal) × ArgumentsRefused st.space id v at len p fl faults why). (Err k.0, answer.arguments k.0 k.1))
       (called? v at len p fl faults st.space id)
 
   pub answers : All Call.result

@@ -1,4 +1,5 @@
 -- How an overwrite ends, and that it is the other half where nothing is met.
+use Rattle.std.specs.Prelude.{Result, Ok, Option, Some, None}
 use Prim.Native.Nat.{ℕ, ◌+◌, ◌*◌, ◌%◌, ◌≤◌, ◌<◌}
 use mathlib.Core.Path.{◌≡◌, refl, sym, ◌∙◌, ap, subst}
 use mathlib.Core.Bool.{Bool, true, false}
@@ -19,17 +20,12 @@ use Rattle.space.specs.declared.Mapping.{Mapping}
 use Rattle.space.specs.declared.Space.{Space}
 use Rattle.table_cuts.specs.Cuts.{non_empty}
 use Rattle.vmar_offset.specs.Offset.{slot_of, test_map, determine_offset}
-use Rattle.vmar_offset.specs.declared.Offset.{Offset}
-use Rattle.vmar_offset.specs.declared.Offset.TheVariants as asked
-use Rattle.vmar_offset.specs.declared.OffsetResult.{OffsetResult}
 use Rattle.vmar_offset.proofs.Offsets.{asked_odd, asked_free}
 use Rattle.vmar_offset.proofs.Found.{free_fits}
 use Rattle.vmar_doom.specs.Doomed.{marked}
 use Rattle.vmar_cuts.specs.Cuts.{unmap_cuts}
 use Rattle.vmar_map.specs.Map.{mapping, settled, mapped}
 use Rattle.vmar_map.specs.Map as half
-use Rattle.vmar_map.specs.declared.MapExtResult.TheVariants as result
-use Rattle.vmar_map.specs.declared.Tested.{Tested}
 use Rattle.vmar_map.proofs.Maps as maps
 use Rattle.vmar_laws.specs.Answers.{Fine}
 use Rattle.vmar_laws.proofs.Maps.{Tests, fine, fails, tests}
@@ -38,7 +34,7 @@ use Rattle.vmar_overwrite.specs.Overwrite.{OverwriteDone, refused, new_slot, is_
 use Rattle.vmar_overwrite.proofs.Room.{RangeEnds, refusal, cuts, range_ends, not_short}
 use Rattle.vmar_overwrite.proofs.Calls.{empty, some_bytes, nothing_met, something_met, odd_offset, past_region, odd_address, at_address, dead, alive, never_issued, unknown_permissions, unknown_flags, known_all}
 
-module _ (base : ℕ) (st : State) (id : ℕ) (o : Offset) (vmo v at len p fl : ℕ) (faults : Bool) where
+module _ (base : ℕ) (st : State) (id : ℕ) (o : Option ℕ) (vmo v at len p fl : ℕ) (faults : Bool) where
   abbrev s : Space
   s = st.space
 
@@ -53,8 +49,8 @@ module _ (base : ℕ) (st : State) (id : ℕ) (o : Offset) (vmo v at len p fl : 
   other = uncut st (mapped s f id o vmo v at len p fl faults)
 
   -- where nothing is met, by the offset
-  module _ (off : ℕ) (q : o ≡ asked.Some off) (t : test_map s r off len ≡ true) where
-    abbrev settles : OffsetResult → OverwriteDone
+  module _ (off : ℕ) (q : o ≡ Some off) (t : test_map s r off len ≡ true) where
+    abbrev settles : Result ℕ Refusal → OverwriteDone
     settles d = uncut st (settled s f r vmo at len p fl d)
 
     at_alike : multiple len 4096 ≡ true → at_offset base st r off vmo at len p fl ≡ settles (determine_offset s r o len 4096)
@@ -78,10 +74,10 @@ module _ (base : ℕ) (st : State) (id : ℕ) (o : Offset) (vmo v at len p fl : 
         (λ (d : eqb r 32 ≡ true). sym (dead base st id o vmo at len p fl r refl (eqb-true _ _ d)) ∙ ap (uncut st) (maps.dead s f id o vmo at len p fl d))
         (λ (d : eqb r 32 ≡ false).
         sym (alive base st id o vmo at len p fl r refl (eqb-false _ _ d)) ∙ ap (by_offset base st r vmo at len p fl) q ∙ at_alike w
-        ∙ ap (uncut st) (maps.alive s f id o vmo at len p fl d))
+        ∙ ap (uncut st) (maps.alive s f id o vmo at len p fl r refl d))
         (tell (eqb r 32))
 
-    tests_alike : (d : Tested) → Tests v at len p fl faults d → after_tests base st id o vmo at len p fl d ≡ uncut st (half.after_tests s f id o vmo at len p fl d)
+    tests_alike : (d : Result (Unit {0}) Refusal) → Tests v at len p fl faults d → after_tests base st id o vmo at len p fl d ≡ uncut st (half.after_tests s f id o vmo at len p fl d)
     tests_alike d (fine w) = in_alike (eq-eqb _ _ w.pages.size)
     tests_alike d (fails why n) = refl
 
@@ -109,7 +105,7 @@ module _ (base : ℕ) (st : State) (id : ℕ) (o : Offset) (vmo v at len p fl : 
     pub flags : known_page fl ≡ true
     pub fine : Fine v at len p fl faults
     pub live : r ≡ 32 → ⊥
-    pub asked : o ≡ asked.Some off
+    pub asked : o ≡ Some off
     pub offset : off % 4096 ≡ 0
     pub inner : off + len ≤ (region_at s r).size
     pub aligned : ((region_at s r).addr + off) % 4096 ≡ 0
@@ -129,14 +125,14 @@ module _ (base : ℕ) (st : State) (id : ℕ) (o : Offset) (vmo v at len p fl : 
   -- how a call ends: refused, as the other half, or with the mapping after a cut
   pub data Ends : OverwriteDone → Type 0 where
     refuses : (why : Refusal) → Ends (refused st why)
-    places : (off : ℕ) → o ≡ asked.Some off → test_map s r off len ≡ true → Ends other
-    replaces : (off : ℕ) → Shown off → Ends (record { result = result.Mapped ((region_at s r).addr + off); state = leaves off })
+    places : (off : ℕ) → o ≡ Some off → test_map s r off len ≡ true → Ends other
+    replaces : (off : ℕ) → Shown off → Ends (record { result = Ok ((region_at s r).addr + off); state = leaves off })
 
   no_way : (why : Refusal) (out : OverwriteDone) → refused st why ≡ out → Ends out
   no_way why out e = subst Ends e (refuses why)
 
   -- where something is met
-  module _ (off : ℕ) (q : o ≡ asked.Some off) (k : known_page p ≡ true) (l : known_page fl ≡ true) (w : Fine v at len p fl faults) (n : r ≡ 32 → ⊥) (a : multiple off 4096 ≡ true)
+  module _ (off : ℕ) (q : o ≡ Some off) (k : known_page p ≡ true) (l : known_page fl ≡ true) (w : Fine v at len p fl faults) (n : r ≡ 32 → ⊥) (a : multiple off 4096 ≡ true)
       (i : leb (off + len) (region_at s r).size ≡ true) (c : multiple ((region_at s r).addr + off) 4096 ≡ true) (t : test_map s r off len ≡ false) where
     abbrev m : Mapping
     m = mapping s r off vmo at len p
@@ -175,7 +171,7 @@ module _ (base : ℕ) (st : State) (id : ℕ) (o : Offset) (vmo v at len p fl : 
         (same? len 0)
 
   -- at the offset, where something is met
-  by_offset_lem : (off : ℕ) → o ≡ asked.Some off → test_map s r off len ≡ false → known_page p ≡ true → known_page fl ≡ true → Fine v at len p fl faults → (r ≡ 32 → ⊥)
+  by_offset_lem : (off : ℕ) → o ≡ Some off → test_map s r off len ≡ false → known_page p ≡ true → known_page fl ≡ true → Fine v at len p fl faults → (r ≡ 32 → ⊥)
       → Ends (at_offset base st r off vmo at len p fl)
   by_offset_lem off q t k l w n =
       ⊎_elim
@@ -192,11 +188,11 @@ module _ (base : ℕ) (st : State) (id : ℕ) (o : Offset) (vmo v at len p fl : 
 
   -- the offset that is given, if one is, meets something
   abbrev Meets : Type 0
-  Meets = (off : ℕ) → o ≡ asked.Some off → test_map s r off len ≡ false
+  Meets = (off : ℕ) → o ≡ Some off → test_map s r off len ≡ false
 
-  by_asked : Meets → known_page p ≡ true → known_page fl ≡ true → Fine v at len p fl faults → (r ≡ 32 → ⊥) → (x : Offset) → o ≡ x → Ends (by_offset base st r vmo at len p fl x)
-  by_asked meets k l w n (asked.Some off) q = by_offset_lem off q (meets off q) k l w n
-  by_asked meets k l w n asked.None q = refuses InvalidArgs
+  by_asked : Meets → known_page p ≡ true → known_page fl ≡ true → Fine v at len p fl faults → (r ≡ 32 → ⊥) → (x : Option ℕ) → o ≡ x → Ends (by_offset base st r vmo at len p fl x)
+  by_asked meets k l w n (Some off) q = by_offset_lem off q (meets off q) k l w n
+  by_asked meets k l w n None q = refuses InvalidArgs
 
   by_region : Meets → known_page p ≡ true → known_page fl ≡ true → Fine v at len p fl faults → Ends (in_region base st id o vmo at len p fl)
   by_region meets k l w =
@@ -205,7 +201,7 @@ module _ (base : ℕ) (st : State) (id : ℕ) (o : Offset) (vmo v at len p fl : 
       (λ (n : r ≡ 32 → ⊥). subst Ends (alive base st id o vmo at len p fl r refl n) (by_asked meets k l w n o refl))
       (same? r 32)
 
-  by_tests : Meets → known_page p ≡ true → known_page fl ≡ true → (d : Tested) → Tests v at len p fl faults d → Ends (after_tests base st id o vmo at len p fl d)
+  by_tests : Meets → known_page p ≡ true → known_page fl ≡ true → (d : Result (Unit {0}) Refusal) → Tests v at len p fl faults d → Ends (after_tests base st id o vmo at len p fl d)
   by_tests meets k l d (fine w) = by_region meets k l w
   by_tests meets k l d (fails why n) = refuses why
 
@@ -223,19 +219,19 @@ module _ (base : ℕ) (st : State) (id : ℕ) (o : Offset) (vmo v at len p fl : 
       (λ (h : ltb id s.nextid ≡ false). no_way BadHandle _ (never_issued base st id o vmo at len p fl v faults h))
       (tell (ltb id s.nextid))
 
-  pub same_offset : {a b : ℕ} → ◌≡◌ {A = Offset} (asked.Some a) (asked.Some b) → a ≡ b
+  pub same_offset : {a b : ℕ} → ◌≡◌ {A = (Option ℕ)} (Some a) (Some b) → a ≡ b
   same_offset e = cc
 
-  none_some : {A : Type 0} {a : ℕ} → ◌≡◌ {A = Offset} asked.None (asked.Some a) → A
+  none_some : {A : Type 0} {a : ℕ} → ◌≡◌ {A = (Option ℕ)} None (Some a) → A
   none_some e = let z : ◌≡◌ {A = ℕ} 0 1 = cc in absurd (omega arith)
 
-  by_any : (x : Offset) → o ≡ x → Ends (overwritten base st id o vmo v at len p fl faults)
-  by_any (asked.Some off) q =
+  by_any : (x : Option ℕ) → o ≡ x → Ends (overwritten base st id o vmo v at len p fl faults)
+  by_any (Some off) q =
       ⊎_elim
       (λ (t : test_map s r off len ≡ true). subst Ends (sym (alike off q t)) (places off q t))
       (λ (t : test_map s r off len ≡ false). by_all (λ a e. subst (λ (y : ℕ). test_map s r y len ≡ false) (same_offset (sym q ∙ e)) t))
       (tell (test_map s r off len))
-  by_any asked.None q = by_all (λ a e. none_some (sym q ∙ e))
+  by_any None q = by_all (λ a e. none_some (sym q ∙ e))
 
   pub ends : Ends (overwritten base st id o vmo v at len p fl faults)
   ends = by_any o refl

@@ -1,4 +1,5 @@
 -- What an overwrite does: refused, as the other half, or after a cut.
+use Rattle.std.specs.Prelude.{Result, Ok, Err, Option, Some}
 use Prim.Native.Nat.{ℕ, ◌+◌, ◌-◌, ◌*◌, ◌/◌, ◌≤◌, ◌<◌}
 use mathlib.Core.Path.{◌≡◌, refl, sym, ◌∙◌, ap, subst}
 use mathlib.Core.Bool.{Bool, true, false}
@@ -19,16 +20,12 @@ use Rattle.space.specs.declared.Space.{Space}
 use Rattle.space.proofs.Facts.{mapping_room, region_end}
 use Rattle.space.proofs.Ranges.{holds}
 use Rattle.vmar_offset.specs.Offset.{slot_of, free_mapping, test_map}
-use Rattle.vmar_offset.specs.declared.Offset.{Offset}
-use Rattle.vmar_offset.specs.declared.Offset.TheVariants as offset
 use Rattle.vmar_offset.proofs.Found.{slot_live}
 use Rattle.vmar_doom.specs.Doomed.{Doomed, marked}
 use Rattle.vmar_cuts.specs.Cuts.{PageRange}
 use Rattle.vmar_cuts.specs.Laws.{UnmapLeaves}
 use Rattle.vmar_cuts.proofs.Laws.{region_cuts}
 use Rattle.vmar_map.specs.Map.{filled, mapping, mapped}
-use Rattle.vmar_map.specs.declared.MapExtResult.{MapExtResult}
-use Rattle.vmar_map.specs.declared.MapExtResult.TheVariants as result
 use Rattle.vmar_laws.specs.Later.{Later}
 use Rattle.vmar_laws.specs.Search.{FreeIn}
 use Rattle.vmar_laws.specs.Maps.{MappingsKept, PagesGiven, Maps}
@@ -51,13 +48,13 @@ use Rattle.vmar_overwrite_laws.proofs.Steps.{made, spare, cleared, same_self, sa
 use Rattle.vmar_overwrite_laws.proofs.Ends.{Shown, leaves, Ends, refuses, places, replaces, alike, same_offset, ends}
 use Rattle.vmar_overwrite_laws.proofs.Answers.{only, answers}
 
-mapped_refused : {A : Type 0} {n : ℕ} {why : Refusal} → ◌≡◌ {A = MapExtResult} (result.Mapped n) (result.Refused why) → A
+mapped_refused : {A : Type 0} {n : ℕ} {why : Refusal} → ◌≡◌ {A = Result ℕ Refusal} (Ok n) (Err why) → A
 mapped_refused e = let z : ◌≡◌ {A = ℕ} 0 1 = cc in absurd (omega arith)
 
-same_address : {a b : ℕ} → ◌≡◌ {A = MapExtResult} (result.Mapped a) (result.Mapped b) → a ≡ b
+same_address : {a b : ℕ} → ◌≡◌ {A = Result ℕ Refusal} (Ok a) (Ok b) → a ≡ b
 same_address e = cc
 
-module _ (base : ℕ) (st : State) (arrays : Arrays st.space) (passes : Passes st.space st.flags) (good : Good st.pool base st.used) (id : ℕ) (o : Offset)
+module _ (base : ℕ) (st : State) (arrays : Arrays st.space) (passes : Passes st.space st.flags) (good : Good st.pool base st.used) (id : ℕ) (o : Option ℕ)
     (vmo v at len p fl : ℕ) (faults : Bool) where
   abbrev s : Space
   s = st.space
@@ -93,7 +90,7 @@ module _ (base : ℕ) (st : State) (arrays : Arrays st.space) (passes : Passes s
       let l = a.mapping.slot in
       subst (NewSlot s r addr (addr + len)) (sym q) (slot_is s r addr (addr + len) (omega arith) (omega arith))
 
-  placed : (off addr : ℕ) → o ≡ offset.Some off → half.Accepted s t f g r addr o vmo v at len p fl faults
+  placed : (off addr : ℕ) → o ≡ Some off → half.Accepted s t f g r addr o vmo v at len p fl faults
       → Accepted base st (uncut st (mapped s f id o vmo v at len p fl faults)).state r addr o vmo v at len p fl faults
   placed off addr q a =
       let m = a.mapping in
@@ -282,19 +279,19 @@ module _ (base : ℕ) (st : State) (arrays : Arrays st.space) (passes : Passes s
     replaced_later : Later s u
     replaced_later = later_more s c u cut.later (later_mapping c slot m)
 
-  nothing_changes : {out : OverwriteDone} → Ends base st id o vmo v at len p fl faults out → (why : Refusal) → out.result ≡ result.Refused why → out.state ≡ st
+  nothing_changes : {out : OverwriteDone} → Ends base st id o vmo v at len p fl faults out → (why : Refusal) → out.result ≡ Err why → out.state ≡ st
   nothing_changes (refuses w) why q = refl
   nothing_changes (places off a t) why q = let z = other.refused why q in placed_same z.0 z.1
   nothing_changes (replaces off shown) why q = mapped_refused q
 
-  accepts : {out : OverwriteDone} → Ends base st id o vmo v at len p fl faults out → (addr : ℕ) → out.result ≡ result.Mapped addr
+  accepts : {out : OverwriteDone} → Ends base st id o vmo v at len p fl faults out → (addr : ℕ) → out.result ≡ Ok addr
       → Accepted base st out.state r addr o vmo v at len p fl faults
   accepts (refuses w) addr q = mapped_refused (sym q)
   accepts (places off a t) addr q = placed off addr a (other.accepted addr q)
   accepts (replaces off shown) addr q =
       subst (λ (x : ℕ). Accepted base st (leaves base st id o vmo v at len p fl faults off) r x o vmo v at len p fl faults) (same_address q) (replaced_accepted off shown)
 
-  replaces_all : {out : OverwriteDone} → Ends base st id o vmo v at len p fl faults out → (addr off : ℕ) → out.result ≡ result.Mapped addr → o ≡ offset.Some off
+  replaces_all : {out : OverwriteDone} → Ends base st id o vmo v at len p fl faults out → (addr off : ℕ) → out.result ≡ Ok addr → o ≡ Some off
       → test_map s r off len ≡ false → Replaced base st out.state r addr (addr + len) (mapping s r off vmo at len p) fl
   replaces_all (refuses w) addr off q z n = mapped_refused (sym q)
   replaces_all (places off' a t) addr off q z n =

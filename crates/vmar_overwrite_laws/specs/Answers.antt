@@ -4,6 +4,7 @@
 -- short, or a mapping exceeds 2 MiB".
 --
 -- In this order: the slot of the new mapping, where the range may lie, the answers in the range, all answers.
+use Rattle.std.specs.Prelude.{Result, Ok, Err, Option, Some, None}
 use Rattle.std.specs.Prelude.{ℕ, ◌+◌, ◌*◌, ◌%◌, ◌≤◌, ◌<◌, ◌≡◌, Bool, true, false, ◌⊎◌}
 use Rattle.refusal.specs.declared.Refusal.{Refusal}
 use Rattle.refusal.specs.declared.Refusal.TheVariants.{InvalidArgs, NoFrames, NoSlot}
@@ -11,12 +12,8 @@ use Rattle.space.specs.Space.{region_at, is_mapping}
 use Rattle.space.specs.declared.Space.{Space}
 use Rattle.table_cuts.specs.Cuts.{non_empty}
 use Rattle.vmar_offset.specs.Offset.{slot_of}
-use Rattle.vmar_offset.specs.declared.Offset.{Offset}
-use Rattle.vmar_offset.specs.declared.Offset.TheVariants as offset
 use Rattle.vmar_laws.specs.Search.{FreeIn}
 use Rattle.vmar_laws.specs.Answers.{Called, ArgumentsRefused}
-use Rattle.vmar_map.specs.declared.MapExtResult.{MapExtResult}
-use Rattle.vmar_map.specs.declared.MapExtResult.TheVariants as result
 use Rattle.vmar_cuts.specs.Cuts.{unmap_cuts}
 use Rattle.vmar_unmap.specs.Unmap.{State, free_frames}
 use Rattle.vmar_unmap_laws.specs.Unmaps.{Partly, Split}
@@ -45,27 +42,27 @@ pub record Fits (s : Space) (r b len : ℕ) : Type 0 where
   pub slot : (i : ℕ) × NewSlot s r b (b + len) i
 
 -- what the call answers at this range of the region in slot r: 1, 1, 10, 8 or success, in this order
-pub data RangeAnswers (st : State) (r b len : ℕ) : MapExtResult → Type 0 where
+pub data RangeAnswers (st : State) (r b len : ℕ) : Result ℕ Refusal → Type 0 where
   -- an empty range in a child or a mapping
-  empty : len ≡ 0 → (FreeIn st.space r b len → ⊥) → RangeAnswers st r b len (result.Refused InvalidArgs)
-  partly : 0 < len → (i : ℕ) → Partly st.space r b (b + len) i → RangeAnswers st r b len (result.Refused InvalidArgs)
+  empty : len ≡ 0 → (FreeIn st.space r b len → ⊥) → RangeAnswers st r b len (Err InvalidArgs)
+  partly : 0 < len → (i : ℕ) → Partly st.space r b (b + len) i → RangeAnswers st r b len (Err InvalidArgs)
   -- "a pool of slots .. is short, or a mapping exceeds 2 MiB"
-  slots : Cuttable st.space r b len → (Fits st.space r b len → ⊥) → RangeAnswers st r b len (result.Refused NoSlot)
+  slots : Cuttable st.space r b len → (Fits st.space r b len → ⊥) → RangeAnswers st r b len (Err NoSlot)
   -- where something is met, 8 exactly when fewer are free than four for each non-empty mapping
   frames : Cuttable st.space r b len → Fits st.space r b len → (FreeIn st.space r b len → ⊥)
-      → free_frames st < 4 * non_empty (unmap_cuts st.space r b (b + len)) → RangeAnswers st r b len (result.Refused NoFrames)
+      → free_frames st < 4 * non_empty (unmap_cuts st.space r b (b + len)) → RangeAnswers st r b len (Err NoFrames)
   done : Cuttable st.space r b len → Fits st.space r b len → FreeIn st.space r b len ⊎ (4 * non_empty (unmap_cuts st.space r b (b + len)) ≤ free_frames st)
-      → RangeAnswers st r b len (result.Mapped b)
+      → RangeAnswers st r b len (Ok b)
 
 -- what the call answers: a refusal of the arguments, 1 or 1, in this order, or what the range gives
-pub data OverwriteAnswers (st : State) (id : ℕ) (o : Offset) (vmo-len at len permissions flags : ℕ) (faults : Bool) : MapExtResult → Type 0 where
+pub data OverwriteAnswers (st : State) (id : ℕ) (o : Option ℕ) (vmo-len at len permissions flags : ℕ) (faults : Bool) : Result ℕ Refusal → Type 0 where
   arguments : (why : Refusal) → ArgumentsRefused st.space id vmo-len at len permissions flags faults why
-      → OverwriteAnswers st id o vmo-len at len permissions flags faults (result.Refused why)
+      → OverwriteAnswers st id o vmo-len at len permissions flags faults (Err why)
   -- an overwrite needs an offset
-  unasked : Called st.space id vmo-len at len permissions flags faults → o ≡ offset.None
-      → OverwriteAnswers st id o vmo-len at len permissions flags faults (result.Refused InvalidArgs)
-  outside : Called st.space id vmo-len at len permissions flags faults → (off : ℕ) → o ≡ offset.Some off → (Aimed st.space (slot_of st.space id) off len → ⊥)
-      → OverwriteAnswers st id o vmo-len at len permissions flags faults (result.Refused InvalidArgs)
-  range : Called st.space id vmo-len at len permissions flags faults → (off : ℕ) → o ≡ offset.Some off → Aimed st.space (slot_of st.space id) off len
-      → (x : MapExtResult) → RangeAnswers st (slot_of st.space id) ((region_at st.space (slot_of st.space id)).addr + off) len x
+  unasked : Called st.space id vmo-len at len permissions flags faults → o ≡ None
+      → OverwriteAnswers st id o vmo-len at len permissions flags faults (Err InvalidArgs)
+  outside : Called st.space id vmo-len at len permissions flags faults → (off : ℕ) → o ≡ Some off → (Aimed st.space (slot_of st.space id) off len → ⊥)
+      → OverwriteAnswers st id o vmo-len at len permissions flags faults (Err InvalidArgs)
+  range : Called st.space id vmo-len at len permissions flags faults → (off : ℕ) → o ≡ Some off → Aimed st.space (slot_of st.space id) off len
+      → (x : Result ℕ Refusal) → RangeAnswers st (slot_of st.space id) ((region_at st.space (slot_of st.space id)).addr + off) len x
       → OverwriteAnswers st id o vmo-len at len permissions flags faults x

@@ -4,6 +4,7 @@
 -- outside keeps its frame and rights; no address inside has a frame any more", where inside is what a mapping held.
 --
 -- In this order: the new mapping, what stays, an accepted call, one that meets something, the theorem.
+use Rattle.std.specs.Prelude.{Result, Ok, Err, Option, Some}
 use Rattle.std.specs.Prelude.{ℕ, ◌+◌, ◌-◌, ◌/◌, ◌%◌, ◌≤◌, ◌<◌, ◌≡◌, Bool, true, false, List, ◌⊎◌}
 use Rattle.common.specs.Flags.{grants, rights}
 use Rattle.form.specs.Form.{Good}
@@ -15,14 +16,10 @@ use Rattle.space.specs.Arrays.{Arrays}
 use Rattle.space.specs.declared.Mapping.{Mapping}
 use Rattle.space.specs.declared.Space.{Space}
 use Rattle.vmar_offset.specs.Offset.{slot_of, test_map}
-use Rattle.vmar_offset.specs.declared.Offset.{Offset}
-use Rattle.vmar_offset.specs.declared.Offset.TheVariants as offset
 use Rattle.vmar_doom.specs.Doomed.{Doomed, marked}
 use Rattle.vmar_cuts.specs.Cuts.{unmap_cuts}
 use Rattle.vmar_cuts.specs.Laws.{UnmapLeaves}
 use Rattle.vmar_map.specs.Map.{mapping, mapped}
-use Rattle.vmar_map.specs.declared.MapExtResult.{MapExtResult}
-use Rattle.vmar_map.specs.declared.MapExtResult.TheVariants as result
 use Rattle.vmar_laws.specs.Later.{Later}
 use Rattle.vmar_laws.specs.Search.{FreeIn}
 use Rattle.vmar_prune.specs.Prune.{cut_space, cut_flags}
@@ -56,7 +53,7 @@ Kept s f r b e t g =
     → ((mapping_at s i).region ≡ r → (x < b) ⊎ (e ≤ x)) → (j : ℕ) × SameAt s f i t g j x
 
 -- st has become out: addr is where a new mapping of the region in slot r stands
-pub record Accepted (base : ℕ) (st out : State) (r addr : ℕ) (o : Offset) (vmo vmo-len at len permissions flags : ℕ) (faults : Bool) : Type 0 where
+pub record Accepted (base : ℕ) (st out : State) (r addr : ℕ) (o : Option ℕ) (vmo vmo-len at len permissions flags : ℕ) (faults : Bool) : Type 0 where
   -- space, flags and pool are such as every call works on
   pub passes : Passes out.space out.flags
   pub arrays : Arrays out.space
@@ -66,7 +63,7 @@ pub record Accepted (base : ℕ) (st out : State) (r addr : ℕ) (o : Offset) (v
   pub free : NewSlot st.space r addr (addr + len) slot
   pub mapping : NewMapping out.space out.flags r slot addr vmo at len permissions flags
   -- at the offset asked for, a whole number of pages; so is its address
-  pub asked : (off : ℕ) × (o ≡ offset.Some off) × (addr ≡ (region_at st.space r).addr + off) × (off % 4096 ≡ 0)
+  pub asked : (off : ℕ) × (o ≡ Some off) × (addr ≡ (region_at st.space r).addr + off) × (off % 4096 ≡ 0)
   pub aligned : addr % 4096 ≡ 0
   -- the permissions grant the rights, and the range lies in the VMO unless faults are allowed
   pub granted : grants permissions (rights flags) ≡ true
@@ -93,23 +90,23 @@ pub record Replaced (base : ℕ) (st out : State) (r b e : ℕ) (m : Mapping) (f
   pub is : out ≡ with_new (cut_state base st (marked st.space r b e) (unmap_cuts st.space r b e) r b e) (new_slot st.space r b e) m flags
 
 -- What is proved of every call: `OverwritesAll`, below.
-pub record Overwrites (base : ℕ) (st : State) (id : ℕ) (o : Offset) (vmo vmo-len at len permissions flags : ℕ) (faults : Bool) (out : OverwriteDone) : Type 0 where
+pub record Overwrites (base : ℕ) (st : State) (id : ℕ) (o : Option ℕ) (vmo vmo-len at len permissions flags : ℕ) (faults : Bool) (out : OverwriteDone) : Type 0 where
   -- "A refusal .. changes nothing anywhere"
-  pub refused : (why : Refusal) → out.result ≡ result.Refused why → out.state ≡ st
-  pub accepted : (addr : ℕ) → out.result ≡ result.Mapped addr → Accepted base st out.state (slot_of st.space id) addr o vmo vmo-len at len permissions flags faults
+  pub refused : (why : Refusal) → out.result ≡ Err why → out.state ≡ st
+  pub accepted : (addr : ℕ) → out.result ≡ Ok addr → Accepted base st out.state (slot_of st.space id) addr o vmo vmo-len at len permissions flags faults
   -- where nothing is met it is the half that never overwrites, and the table stays
-  pub alike : (off : ℕ) → o ≡ offset.Some off → test_map st.space (slot_of st.space id) off len ≡ true
+  pub alike : (off : ℕ) → o ≡ Some off → test_map st.space (slot_of st.space id) off len ≡ true
       → out ≡ uncut st (mapped st.space st.flags id o vmo vmo-len at len permissions flags faults)
   -- where something is met it is cut out
-  pub replaced : (addr off : ℕ) → out.result ≡ result.Mapped addr → o ≡ offset.Some off → test_map st.space (slot_of st.space id) off len ≡ false
+  pub replaced : (addr off : ℕ) → out.result ≡ Ok addr → o ≡ Some off → test_map st.space (slot_of st.space id) off len ≡ false
       → Replaced base st out.state (slot_of st.space id) addr (addr + len) (mapping st.space (slot_of st.space id) off vmo at len permissions) flags
   -- ids "never come back", refused or not
   pub later : Later st.space out.state.space
   -- what the call answers, and no second answer fits
   pub answers : OverwriteAnswers st id o vmo-len at len permissions flags faults out.result
-  pub only : (x : MapExtResult) → OverwriteAnswers st id o vmo-len at len permissions flags faults x → x ≡ out.result
+  pub only : (x : Result ℕ Refusal) → OverwriteAnswers st id o vmo-len at len permissions flags faults x → x ≡ out.result
 
 pub record OverwritesAll : Type 0 where
   pub holds : (base : ℕ) (st : State) → Arrays st.space → Passes st.space st.flags → Good st.pool base st.used
-      → (id : ℕ) (o : Offset) (vmo vmo-len at len permissions flags : ℕ) (faults : Bool)
+      → (id : ℕ) (o : Option ℕ) (vmo vmo-len at len permissions flags : ℕ) (faults : Bool)
       → Overwrites base st id o vmo vmo-len at len permissions flags faults (overwritten base st id o vmo vmo-len at len permissions flags faults)

@@ -1,4 +1,8 @@
 -- What a protect keeps of the two buffers: the pool stays good, and neither changes its length.
+use Rattle.std.specs.Prelude.{None, Option, Result, Some, Ok, Err}
+use Rattle.common.specs.declared.defs.MMUFlags.{MMUFlags}
+use Rattle.common.specs.declared.vm.PageSize.{PageSize}
+use Rattle.refusal.specs.declared.Refusal.{Refusal}
 use Prim.Native.Nat.{ℕ, zero, suc, ◌+◌, ◌*◌, ◌/◌}
 use mathlib.Core.Path.{◌≡◌, refl, sym, ◌∙◌, ap, subst}
 use mathlib.Core.Bool.{Bool, true, false}
@@ -14,12 +18,6 @@ use Rattle.walk.specs.declared.Walk.{Walk}
 use Rattle.walk.specs.declared.Walk.TheVariants.{Leaf, Open}
 use Rattle.table.specs.Table.{misplaced, new_word, Updating, updated}
 use Rattle.table.proofs.Laws.{refused_address, rewritten}
-use Rattle.table.specs.declared.NewAddr.{NewAddr}
-use Rattle.table.specs.declared.NewFlags.{NewFlags}
-use Rattle.table.specs.declared.NewAddr.TheVariants as addr
-use Rattle.table.specs.declared.NewFlags.TheVariants as flags
-use Rattle.table.specs.declared.UpdateResult.{UpdateResult}
-use Rattle.table.specs.declared.UpdateResult.TheVariants as update
 use Rattle.table_laws.proofs.Effects.{effects}
 use Rattle.space.specs.Space.{mapping_at, mapping_place}
 use Rattle.space.specs.Passes.{page_at}
@@ -28,15 +26,15 @@ use Rattle.space.specs.declared.Space.{Space}
 use Rattle.vmar_protect.specs.Protect.{with_rights, Lent, lent, page_done, pages_done, touching, changed, mapping_done, mappings_done}
 
 -- an `update` leaves a good pool good
-pub update_good : (p : List ℕ) (base used v : ℕ) (n : NewAddr) (f : NewFlags) → Good p base used → Good (updated p (base / 4096) v n f).pool base used
+pub update_good : (p : List ℕ) (base used v : ℕ) (n : Option ℕ) (f : Option MMUFlags) → Good p base used → Good (updated p (base / 4096) v n f).pool base used
 update_good p base used v n f G = by (updated p (base / 4096) v n f).result refl
   where
-    by : (r : UpdateResult) → (updated p (base / 4096) v n f).result ≡ r → Good (updated p (base / 4096) v n f).pool base used
-    by (update.Updated z) e = ((effects p base used v G).updates n f z e).2.good
-    by (update.Refused why) e = subst (λ (x : List ℕ). Good x base used) (sym ((effects p base used v G).update_keeps n f why e)) G
+    by : (r : Result PageSize Refusal) → (updated p (base / 4096) v n f).result ≡ r → Good (updated p (base / 4096) v n f).pool base used
+    by (Ok z) e = ((effects p base used v G).updates n f z e).2.good
+    by (Err why) e = subst (λ (x : List ℕ). Good x base used) (sym ((effects p base used v G).update_keeps n f why e)) G
 
 -- and as long as it was
-pub update_length : (p : List ℕ) (b v : ℕ) (n : NewAddr) (f : NewFlags) → length (updated p b v n f).pool ≡ length p
+pub update_length : (p : List ℕ) (b v : ℕ) (n : Option ℕ) (f : Option MMUFlags) → length (updated p b v n f).pool ≡ length p
 update_length p b v n f = go (found p b v) refl
   where
     go : (w : Walk) → found p b v ≡ w → length (updated p b v n f).pool ≡ length p
@@ -67,8 +65,8 @@ module _ (base used : ℕ) where
   page_kept t m j access i =
       record {
         flags = length-set t.flags (j * 512 + i) (with_rights (page_at t.flags j i) access);
-        pool = update_length t.pool (base / 4096) (m.addr + i * 4096) addr.Keep (flags.To (record { 0 = with_rights (page_at t.flags j i) access }));
-        good = update_good t.pool base used (m.addr + i * 4096) addr.Keep (flags.To (record { 0 = with_rights (page_at t.flags j i) access }));
+        pool = update_length t.pool (base / 4096) (m.addr + i * 4096) None (Some (record { 0 = with_rights (page_at t.flags j i) access }));
+        good = update_good t.pool base used (m.addr + i * 4096) None (Some (record { 0 = with_rights (page_at t.flags j i) access }));
       }
 
   pub pages_kept : (t : Lent) (m : Mapping) (j access first n : ℕ) → Kept t (pages_done t (base / 4096) m j access first n)
@@ -90,12 +88,12 @@ module _ (base used : ℕ) where
   mappings_kept t s r begin end access (suc k) = then (mappings_kept t s r begin end access k) (mapping_kept _ s r begin end access k)
 
 -- what the code has written is the page done
-pub page_is : (f p q : List ℕ) (b : ℕ) (m : Mapping) (j access i new : ℕ) (x : UpdateResult) → new ≡ with_rights (page_at f j i) access
-    → record { result = x; pool = q } ≡ updated p b (m.addr + i * 4096) addr.Keep (flags.To (record { 0 = new })) → lent (set f (j * 512 + i) new) q ≡ page_done (lent f p) b m j access i
+pub page_is : (f p q : List ℕ) (b : ℕ) (m : Mapping) (j access i new : ℕ) (x : Result PageSize Refusal) → new ≡ with_rights (page_at f j i) access
+    → record { result = x; pool = q } ≡ updated p b (m.addr + i * 4096) None (Some (record { 0 = new })) → lent (set f (j * 512 + i) new) q ≡ page_done (lent f p) b m j access i
 unfolding page_done
 page_is f p q b m j access i new x e u =
     ap (λ (w : Updating). lent (set f (j * 512 + i) new) w.pool) u
-    ∙ ap (λ (n : ℕ). lent (set f (j * 512 + i) n) (updated p b (m.addr + i * 4096) addr.Keep (flags.To (record { 0 = n }))).pool) e
+    ∙ ap (λ (n : ℕ). lent (set f (j * 512 + i) n) (updated p b (m.addr + i * 4096) None (Some (record { 0 = n }))).pool) e
 
 -- what a step keeps, by its equation
 pub kept_by : (base used : ℕ) (t u v : Lent) → u ≡ v → Kept base used t v → Kept base used t u

@@ -1,4 +1,5 @@
 -- The call by what its tests show.
+use Rattle.std.specs.Prelude.{Ok}
 use Prim.Native.Nat.{ℕ, ◌+◌}
 use mathlib.Core.Path.{◌≡◌, sym}
 use mathlib.Core.Bool.{true, false}
@@ -10,7 +11,6 @@ use Rattle.refusal.specs.declared.Refusal.TheVariants.{InvalidArgs, AccessDenied
 use Rattle.space.specs.declared.Space.{Space}
 use Rattle.vmar_offset.specs.Offset.{slot_of}
 use Rattle.vmar_protect.specs.Protect.{child_touched, total, denied, Lent, mappings_done, done, refused, in_region, protected}
-use Rattle.vmar_protect.specs.declared.ProtectResult.TheVariants.{Protected}
 
 -- in a live region
 module _ (s : Space) (t : Lent) (b r begin len access : ℕ) where
@@ -28,7 +28,7 @@ module _ (s : Space) (t : Lent) (b r begin len access : ℕ) where
       unfolding in_region
       forbidden d = rw (c, n, d)
 
-      pub allowed : denied s r begin (begin + len) access ≡ false → done Protected (mappings_done t b s r begin (begin + len) access s.mapcount) ≡ in_region s t b r begin len access
+      pub allowed : denied s r begin (begin + len) access ≡ false → done (Ok tt) (mappings_done t b s r begin (begin + len) access s.mapcount) ≡ in_region s t b r begin len access
       unfolding in_region
       allowed d = rw (c, n, d)
 

@@ -5,7 +5,7 @@ use mathlib.Core.Bool.{true, false, not}
 use mathlib.Core.Logic.{◌⊎◌, inl, inr, ⊎_elim}
 use native.Mathlib.Omega.{arith}
 use lib.Dec.{ltb, eqb}
-use borrow.Author.Tests.{lt-ltb, le-ltb, le-leb, leb-true, ltb-false, eqb-true, eq-eqb}
+use borrow.Author.Tests.{le-ltb, le-leb, leb-true, ltb-false, eqb-true, eq-eqb}
 use Rattle.paging.proofs.Cases.{below?, no_truth}
 use Rattle.scan.proofs.Scans.{tell}
 use Rattle.common.specs.Flags.{grants, rights}
@@ -37,18 +37,12 @@ touch_of o r a n begin end e l h = rw (eq-eqb o r e, le-ltb (a + n) begin l) (le
 pub from_is : (m : Mapping) (begin : ℕ) → (m.addr ≤ part_from m begin) × (begin ≤ part_from m begin) × ((part_from m begin ≡ m.addr) ⊎ (part_from m begin ≡ begin))
 unfolding part_from
 from_is m begin =
-    ⊎_elim
-    (λ (l : begin < m.addr). rw (lt-ltb begin m.addr l) (omega arith, omega arith, inl refl))
-    (λ (l : m.addr ≤ begin). rw (le-ltb begin m.addr l) (omega arith, omega arith, inr refl))
-    (below? begin m.addr)
+    (omega arith, omega arith, ⊎_elim (λ (l : begin < m.addr). inl (omega arith)) (λ (l : m.addr ≤ begin). inr (omega arith)) (below? begin m.addr))
 
 pub to_is : (m : Mapping) (end : ℕ) → (part_to m end ≤ m.addr + m.size) × (part_to m end ≤ end) × ((part_to m end ≡ m.addr + m.size) ⊎ (part_to m end ≡ end))
 unfolding part_to
 to_is m end =
-    ⊎_elim
-    (λ (l : end < m.addr + m.size). rw (lt-ltb end (m.addr + m.size) l) (omega arith, omega arith, inr refl))
-    (λ (l : m.addr + m.size ≤ end). rw (le-ltb end (m.addr + m.size) l) (omega arith, omega arith, inl refl))
-    (below? end (m.addr + m.size))
+    (omega arith, omega arith, ⊎_elim (λ (l : end < m.addr + m.size). inr (omega arith)) (λ (l : m.addr + m.size ≤ end). inl (omega arith)) (below? end (m.addr + m.size)))
 
 -- the part of a touching mapping does not end before it begins
 pub part_runs : (m : Mapping) (begin end : ℕ) → begin ≤ end → begin ≤ m.addr + m.size → m.addr ≤ end → part_from m begin ≤ part_to m end

@@ -2,6 +2,7 @@
 -- touching mapping must grant the rights too"; 'Refusal numbers': "11, unknown flag bits (1), .. then the Rust's own order". The rest is the Rust: the parts of the
 -- region's mappings in the range must make up its length (4), then each page in the range gets the rights, in its page flags and by the table's `update`, whose refusal
 -- is passed over. The records of the space do not change.
+use Rattle.std.specs.Prelude.{None, Some, Result, Ok, Err, min, max}
 use Rattle.std.specs.Prelude.{ℕ, zero, suc, ◌+◌, ◌-◌, ◌*◌, ◌/◌, Bool, false, not, List, leb, ltb, eqb, set}
 use Rattle.paging.specs.Choice.{pick}
 use Rattle.common.specs.Flags.{known_page, grants, rights}
@@ -10,16 +11,11 @@ use Rattle.vm.specs.Align.{multiple}
 use Rattle.refusal.specs.declared.Refusal.{Refusal}
 use Rattle.refusal.specs.declared.Refusal.TheVariants.{InvalidArgs, AccessDenied, NotFound, BadState, BadHandle}
 use Rattle.table.specs.Table.{updated}
-use Rattle.table.specs.declared.NewAddr.TheVariants as addr
-use Rattle.table.specs.declared.NewFlags.TheVariants as flags
 use Rattle.space.specs.Space.{region_at, mapping_at, region_place, mapping_place}
 use Rattle.space.specs.Passes.{page_at}
 use Rattle.space.specs.declared.Mapping.{Mapping}
 use Rattle.space.specs.declared.Space.{Space}
 use Rattle.vmar_offset.specs.Offset.{slot_of}
-use Rattle.vmar_protect.specs.declared.Changed.{Changed}
-use Rattle.vmar_protect.specs.declared.ProtectResult.{ProtectResult}
-use Rattle.vmar_protect.specs.declared.ProtectResult.TheVariants as result
 
 -- what belongs to `owner` belongs to region r, and its range [a, a + n] touches [begin, end], both closed
 unfoldable pub touches : ℕ → ℕ → ℕ → ℕ → ℕ → ℕ → Bool
@@ -38,12 +34,16 @@ touching m r begin end = touches m.region r m.addr m.size begin end
 
 -- the part of a touching mapping in the range: where it begins, where it ends
 unfoldable pub part_from : Mapping → ℕ → ℕ
-part_from m begin = pick (ltb begin m.addr) m.addr begin
+part_from m begin = max begin m.addr
 
 unfoldable pub part_to : Mapping → ℕ → ℕ
-part_to m end = pick (ltb end (m.addr + m.size)) end (m.addr + m.size)
+part_to m end = min end (m.addr + m.size)
 
--- a mapping's changed pages are one range: those of its part
+-- a mapping's changed pages are one range, so many from the first on: those of its part
+pub record Changed : Type 0 where
+  pub first : ℕ
+  pub count : ℕ
+
 abbrev pub changed : Mapping → ℕ → ℕ → Changed
 changed m begin end = record { first = (part_from m begin - m.addr) / 4096; count = (part_to m end - part_from m begin) / 4096 }
 
@@ -81,7 +81,7 @@ lent f p = record { flags = f; pool = p }
 unfoldable pub page_done : Lent → ℕ → Mapping → ℕ → ℕ → ℕ → Lent
 page_done t b m j access i =
     lent (set t.flags (j * 512 + i) (with_rights (page_at t.flags j i) access))
-    (updated t.pool b (m.addr + i * 4096) addr.Keep (flags.To (record { 0 = with_rights (page_at t.flags j i) access }))).pool
+    (updated t.pool b (m.addr + i * 4096) None (Some (record { 0 = with_rights (page_at t.flags j i) access }))).pool
 
 -- the n pages from `first` on, one after the other
 unfoldable pub pages_done : Lent → ℕ → Mapping → ℕ → ℕ → ℕ → ℕ → Lent
@@ -101,16 +101,16 @@ mappings_done t b s r begin end access (suc k) = mapping_done (mappings_done t b
 
 -- the answer and the two buffers after a protect
 pub record ProtectDone : Type 0 where
-  pub result : ProtectResult
+  pub result : Result (Unit {0}) Refusal
   pub flags : List ℕ
   pub pool : List ℕ
 
-abbrev pub done : ProtectResult → Lent → ProtectDone
+abbrev pub done : Result (Unit {0}) Refusal → Lent → ProtectDone
 done x t = record { result = x; flags = t.flags; pool = t.pool }
 
 -- a refusal changes nothing
 abbrev pub refused : Lent → Refusal → ProtectDone
-refused t why = done (result.Refused why) t
+refused t why = done (Err why) t
 
 -- the range [begin, begin + len) in the live region r
 unfoldable pub in_region : Space → Lent → ℕ → ℕ → ℕ → ℕ → ℕ → ProtectDone
@@ -120,7 +120,7 @@ in_region s t b r begin len access =
     (pick (eqb (total s r begin (begin + len) s.mapcount) len)
     (pick (denied s r begin (begin + len) access)
     (refused t AccessDenied)
-    (done result.Protected (mappings_done t b s r begin (begin + len) access s.mapcount)))
+    (done (Ok tt) (mappings_done t b s r begin (begin + len) access s.mapcount)))
     (refused t NotFound))
 
 -- the call, from 11 on; b is the number of the pool's first frame

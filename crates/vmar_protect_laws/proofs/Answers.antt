@@ -1,4 +1,6 @@
 -- What `protect` answers: some answer fits, and one that fits is the call's.
+use Rattle.std.specs.Prelude.{Result, Ok, Err}
+use Rattle.refusal.specs.declared.Refusal.{Refusal}
 use Prim.Native.Nat.{ℕ, zero, suc, ◌+◌, ◌%◌, ◌^◌, ◌≤◌, ◌<◌}
 use mathlib.Core.Path.{◌≡◌, refl, sym, ◌∙◌, ap, subst}
 use mathlib.Core.Bool.{Bool, true, false, not}
@@ -22,8 +24,6 @@ use Rattle.vmar_offset.proofs.Found.{slot_live}
 use Rattle.vmar_protect.specs.Protect.{touches, touches_child, child_touched, touching, total, denies, denies_at, Lent, mappings_done, ProtectDone, refused, in_region, protected}
 use Rattle.vmar_protect.specs.Protect as protect
 use Rattle.vmar_protect_laws.specs.Answers.{ChildTouches, Touches, HeldIn, WholePages, Asked, Allowed, ProtectAnswers, unissued, unknown, odd, dead, over, touched, uncovered, denied, done}
-use Rattle.vmar_protect.specs.declared.ProtectResult.{ProtectResult}
-use Rattle.vmar_protect.specs.declared.ProtectResult.TheVariants as result
 use Rattle.vmar_protect.proofs.Calls as calls
 use Rattle.vmar_protect.proofs.Parts.{touch_means, touch_of, denies_there, denies_none}
 use Rattle.vmar_protect_laws.proofs.Covers.{covers, filled, gap?}
@@ -123,13 +123,13 @@ module _ (s : Space) (f : List ℕ) (g : Passes s f) (t : Lent) (b id begin len 
   abbrev Call : ProtectDone
   Call = protected s t b id begin len access
 
-  abbrev All : ProtectResult → Type 0
+  abbrev All : Result (Unit {0}) Refusal → Type 0
   All x = ProtectAnswers s id begin len access x
 
   -- what a call with this answer leaves
-  abbrev pub Left : ProtectResult → ProtectDone
-  Left result.Protected = protect.done result.Protected (mappings_done t b s r begin end access s.mapcount)
-  Left (result.Refused why) = refused t why
+  abbrev pub Left : Result (Unit {0}) Refusal → ProtectDone
+  Left (Ok _) = protect.done (Ok tt) (mappings_done t b s r begin end access s.mapcount)
+  Left (Err why) = refused t why
 
   module _ (i : id < s.nextid) (k : known_page access ≡ true) where
     is_odd : (WholePages begin len → ⊥) → refused t InvalidArgs ≡ Call
@@ -171,12 +171,12 @@ module _ (s : Space) (f : List ℕ) (g : Passes s f) (t : Lent) (b id begin len 
       whole : ((x : ℕ) → begin ≤ x → x < end → HeldIn s r x) → eqb (total s r begin end s.mapcount) len ≡ true
       whole each = eq-eqb (total s r begin end s.mapcount) len (filled s f g r begin len each)
 
-    is_done : Allowed s r begin end access → Left result.Protected ≡ Call
+    is_done : Allowed s r begin end access → Left (Ok tt) ≡ Call
     is_done w =
         calls.allowed s t b r begin len access (childless w.childless) (whole w.childless w.covered)
         (denied_none s f g r begin end access (λ i d. clash _ (w.granting i d.0) d.1)) ∙ to_region
 
-  pub leaves : (x : ProtectResult) → All x → Left x ≡ Call
+  pub leaves : (x : Result (Unit {0}) Refusal) → All x → Left x ≡ Call
   leaves x (unissued h) = calls.never_issued s t b id begin len access (le-ltb _ _ h)
   leaves x (unknown i k) = calls.unknown s t b id begin len access (lt-ltb _ _ i) k
   leaves x (odd i k n) = is_odd i k n
@@ -188,26 +188,26 @@ module _ (s : Space) (f : List ℕ) (g : Passes s f) (t : Lent) (b id begin len 
       calls.forbidden s t b r begin len access (childless A n) (whole A n each) (denied_some s f g r begin end access i (w, d)) ∙ to_region A
   leaves x (done A w) = is_done A w
 
-  pub only : (x : ProtectResult) → All x → x ≡ Call.result
+  pub only : (x : Result (Unit {0}) Refusal) → All x → x ≡ Call.result
   only x k = same x ∙ ap (λ (d : ProtectDone). d.result) (leaves x k)
     where
-      same : (x : ProtectResult) → x ≡ (Left x).result
-      same result.Protected = refl
-      same (result.Refused why) = refl
+      same : (x : Result (Unit {0}) Refusal) → x ≡ (Left x).result
+      same (Ok _) = refl
+      same (Err why) = refl
 
   -- some answer fits
-  abbrev pub Some : Type 0
-  Some = (x : ProtectResult) × All x
+  abbrev pub Fit : Type 0
+  Fit = (x : Result (Unit {0}) Refusal) × All x
 
-  some_region : Asked s id begin len access → Some
+  some_region : Asked s id begin len access → Fit
   some_region A =
       ⊎_elim
-      (λ w. (result.Refused InvalidArgs, touched A w.0 w.1))
+      (λ w. (Err InvalidArgs, touched A w.0 w.1))
       (λ (n : (i : ℕ) → ChildTouches s r begin end i → ⊥). ⊎_elim
       (λ (each : (x : ℕ) → begin ≤ x → x < end → HeldIn s r x). ⊎_elim
-      (λ w. (result.Refused AccessDenied, denied A n each w.0 w.1.0 w.1.1))
+      (λ w. (Err AccessDenied, denied A n each w.0 w.1.0 w.1.1))
       (λ (d : (i : ℕ) → Denies s f g r begin end access i → ⊥). (
-        result.Protected,
+        (Ok tt),
         done A (record {
           childless = n;
           covered = each;
@@ -218,47 +218,47 @@ module _ (s : Space) (f : List ℕ) (g : Passes s f) (t : Lent) (b id begin len 
         }),
       ))
       (denies? s f g r begin end access))
-      (λ w. (result.Refused NotFound, uncovered A n w.0 w.1 w.2 w.3))
+      (λ w. (Err NotFound, uncovered A n w.0 w.1 w.2 w.3))
       (gap? s f g r begin len))
       (child? s f g r begin end access)
 
-  some_pages : id < s.nextid → known_page access ≡ true → WholePages begin len → Some
+  some_pages : id < s.nextid → known_page access ≡ true → WholePages begin len → Fit
   some_pages i k w =
       ⊎_elim
-      (λ (z : r ≡ 32). (result.Refused BadState, dead i k w z))
+      (λ (z : r ≡ 32). (Err BadState, dead i k w z))
       (λ (z : r ≡ 32 → ⊥).
       let l = (slot_live s id z).0 in
       ⊎_elim
       (λ (h : end < 2 ^ 64). some_region (record { issued = i; known = k; pages = w; live = l; end = h }))
-      (λ (h : 2 ^ 64 ≤ end). (result.Refused InvalidArgs, over i k w l h))
+      (λ (h : 2 ^ 64 ≤ end). (Err InvalidArgs, over i k w l h))
       (below? end (2 ^ 64)))
       (same? r 32)
 
-  some_known : id < s.nextid → known_page access ≡ true → Some
+  some_known : id < s.nextid → known_page access ≡ true → Fit
   some_known i k =
       ⊎_elim
       (λ (x : begin % 4096 ≡ 0). ⊎_elim
       (λ (y : len % 4096 ≡ 0). some_pages i k (x, y))
-      (λ (y : len % 4096 ≡ 0 → ⊥). (result.Refused InvalidArgs, odd i k (λ w. y w.1)))
+      (λ (y : len % 4096 ≡ 0 → ⊥). (Err InvalidArgs, odd i k (λ w. y w.1)))
       (same? (len % 4096) 0))
-      (λ (x : begin % 4096 ≡ 0 → ⊥). (result.Refused InvalidArgs, odd i k (λ w. x w.0)))
+      (λ (x : begin % 4096 ≡ 0 → ⊥). (Err InvalidArgs, odd i k (λ w. x w.0)))
       (same? (begin % 4096) 0)
 
-  pub some_answer : Some
+  pub some_answer : Fit
   some_answer =
       ⊎_elim
       (λ (i : id < s.nextid). ⊎_elim
       (λ (k : known_page access ≡ true). some_known i k)
-      (λ (k : known_page access ≡ false). (result.Refused InvalidArgs, unknown i k))
+      (λ (k : known_page access ≡ false). (Err InvalidArgs, unknown i k))
       (tell (known_page access)))
-      (λ (i : s.nextid ≤ id). (result.Refused BadHandle, unissued i))
+      (λ (i : s.nextid ≤ id). (Err BadHandle, unissued i))
       (below? id s.nextid)
 
   pub answers : All Call.result
   answers = subst All (only some_answer.0 some_answer.1) some_answer.1
 
 -- what an accepted call asked for, and what it was allowed by
-pub accepted : {s : Space} {id begin len access : ℕ} {x : ProtectResult} → ProtectAnswers s id begin len access x → x ≡ result.Protected
+pub accepted : {s : Space} {id begin len access : ℕ} {x : (Result (Unit {0}) Refusal)} → ProtectAnswers s id begin len access x → x ≡ Ok tt
     → Asked s id begin len access × Allowed s (slot_of s id) begin (begin + len) access
 accepted (unissued h) q = let z : ◌≡◌ {A = ℕ} 0 1 = cc in absurd (omega arith)
 accepted (unknown i k) q = let z : ◌≡◌ {A = ℕ} 0 1 = cc in absurd (omega arith)

@@ -1,4 +1,6 @@
 -- What `protect` means.
+use Rattle.std.specs.Prelude.{Result}
+use Rattle.std.specs.Prelude.{Err, Ok}
 use Prim.Native.Nat.{ℕ, ◌+◌, ◌/◌, ◌%◌, ◌≤◌, ◌<◌}
 use mathlib.Core.Path.{◌≡◌, refl, sym, ◌∙◌, ap, subst}
 use mathlib.Core.Bool.{true, false}
@@ -25,7 +27,6 @@ use Rattle.space.specs.Passes.{page_at, others, Pages, Passes}
 use Rattle.space.specs.declared.Mapping.{Mapping}
 use Rattle.space.specs.declared.Space.{Space}
 use Rattle.table.specs.Table.{queried}
-use Rattle.table.specs.declared.QueryResult.TheVariants as query
 use Rattle.table.proofs.Laws.{shown}
 use Rattle.table_laws.specs.Effects.{shows_in, translates_in}
 use Rattle.table_laws.proofs.Effects.{effects, shown_at}
@@ -33,8 +34,6 @@ use Rattle.vmar_offset.specs.Offset.{slot_of}
 use Rattle.vmar_protect.specs.Protect.{with_rights, Lent, lent, mappings_done, ProtectDone, refused}
 use Rattle.vmar_protect_laws.specs.Laws.{page_addr, InRange, SameFrame, none, frame, Over, LastOver, call, Protects, ProtectLaws}
 use Rattle.vmar_protect_laws.specs.Answers.{WholePages, ProtectAnswers}
-use Rattle.vmar_protect.specs.declared.ProtectResult.{ProtectResult}
-use Rattle.vmar_protect.specs.declared.ProtectResult.TheVariants as result
 use Rattle.vmar_protect_laws.proofs.Righted as new
 use Rattle.vmar_protect.proofs.Buffers.{mappings_kept}
 use Rattle.vmar_protect_laws.proofs.Pages.{places_stay, places_change, in_range?}
@@ -70,9 +69,9 @@ same_to p q base x e = ap (translated x86 x) e
 
 -- a query and what it tells of
 pub data Told (p : List ℕ) (base x : ℕ) : Type 0 where
-  found_at : (a : ℕ) (f : MMUFlags) (z : PageSize) (l w : ℕ) → queried p (base / 4096) x ≡ query.Page a f z → translates_in p base x ≡ to a f.0 → shows_in p base x ≡ view l w
+  found_at : (a : ℕ) (f : MMUFlags) (z : PageSize) (l w : ℕ) → queried p (base / 4096) x ≡ Ok (a, f, z) → translates_in p base x ≡ to a f.0 → shows_in p base x ≡ view l w
       → z ≡ size_at l → Told p base x
-  not_there : queried p (base / 4096) x ≡ query.Refused NotMapped → translates_in p base x ≡ nowhere → Told p base x
+  not_there : queried p (base / 4096) x ≡ Err NotMapped → translates_in p base x ≡ nowhere → Told p base x
 
 -- each query is one of the two
 told : (p : List ℕ) (base used : ℕ) → Good p base used → (x : ℕ) → Told p base x
@@ -83,7 +82,7 @@ told p base used G x = go (found p (base / 4096) x) refl
         let h = shown p (base / 4096) x e q in
         let o = over p (base / 4096) used G.formed x e q in
         found_at _ _ _ o.l (word p e.frame e.place) h ((effects p base used x G).queries _ _ _ h) (shown_at p base used x G o.l e.frame e.place o.placed) o.size
-    go (Open o) q = let h : queried p (base / 4096) x ≡ query.Refused NotMapped = rw q in not_there h ((effects p base used x G).queries_not h)
+    go (Open o) q = let h : queried p (base / 4096) x ≡ Err NotMapped = rw q in not_there h ((effects p base used x G).queries_not h)
 
 -- translations of one frame, or both none
 data Framed (t u : Translation) : Type 0 where
@@ -147,20 +146,20 @@ given_to Q R p q base x a h (leaves l m m' b c d e i j) G t =
     )
 
 -- no answer is both
-refused_not : {why : Refusal} → result.Refused why ≡ result.Protected → ⊥
+refused_not : {why : Refusal} → ◌≡◌ {A = Result (Unit {0}) Refusal} (Err why) (Ok tt) → ⊥
 refused_not e = let z : ◌≡◌ {A = ℕ} 0 1 = cc in omega arith
 
 module _ (s : Space) (f p : List ℕ) (base used id begin len access : ℕ) (g : Passes s f) (G : Good p base used) where
   answers : ProtectAnswers s id begin len access (call s f p base id begin len access).result
   answers = answer.answers s f g (lent f p) (base / 4096) id begin len access
 
-  only : (x : ProtectResult) → ProtectAnswers s id begin len access x → x ≡ (call s f p base id begin len access).result
+  only : (x : Result (Unit {0}) Refusal) → ProtectAnswers s id begin len access x → x ≡ (call s f p base id begin len access).result
   only = answer.only s f g (lent f p) (base / 4096) id begin len access
 
   -- a refused call
   by_refusal : (why : Refusal) → call s f p base id begin len access ≡ refused (lent f p) why → Protects s f p base used id begin len access
   by_refusal why e =
-      let e0 : (call s f p base id begin len access).result ≡ result.Refused why = ap (λ (x : ProtectDone). x.result) e in
+      let e0 : (call s f p base id begin len access).result ≡ Err why = ap (λ (x : ProtectDone). x.result) e in
       let e1 : (call s f p base id begin len access).flags ≡ f = ap (λ (x : ProtectDone). x.flags) e in
       let e2 : (call s f p base id begin len access).pool ≡ p = ap (λ (x : ProtectDone). x.pool) e in
       record {
@@ -179,7 +178,7 @@ module _ (s : Space) (f p : List ℕ) (base used id begin len access : ℕ) (g :
       }
 
   -- an accepted one
-  module _ (A : WholePages begin len) (is : call s f p base id begin len access ≡ answer.Left s f g (lent f p) (base / 4096) id begin len access result.Protected) where
+  module _ (A : WholePages begin len) (is : call s f p base id begin len access ≡ answer.Left s f g (lent f p) (base / 4096) id begin len access (Ok tt)) where
     abbrev r : ℕ
     r = slot_of s id
 
@@ -309,13 +308,13 @@ module _ (s : Space) (f p : List ℕ) (base used id begin len access : ℕ) (g :
 pub protects : (s : Space) (f p : List ℕ) (base used id begin len access : ℕ) → Passes s f → Good p base used → Protects s f p base used id begin len access
 protects s f p base used id begin len access g G = by some.0 some.1
   where
-    some : answer.Some s f g (lent f p) (base / 4096) id begin len access
+    some : answer.Fit s f g (lent f p) (base / 4096) id begin len access
     some = answer.some_answer s f g (lent f p) (base / 4096) id begin len access
 
-    by : (x : ProtectResult) → ProtectAnswers s id begin len access x → Protects s f p base used id begin len access
-    by (result.Refused why) k = by_refusal s f p base used id begin len access g G why (sym (answer.leaves s f g (lent f p) (base / 4096) id begin len access (result.Refused why) k))
-    by result.Protected k =
-        by_acceptance s f p base used id begin len access g G (answer.accepted k refl).0.pages (sym (answer.leaves s f g (lent f p) (base / 4096) id begin len access result.Protected k))
+    by : (x : Result (Unit {0}) Refusal) → ProtectAnswers s id begin len access x → Protects s f p base used id begin len access
+    by (Err why) k = by_refusal s f p base used id begin len access g G why (sym (answer.leaves s f g (lent f p) (base / 4096) id begin len access (Err why) k))
+    by (Ok _) k =
+        by_acceptance s f p base used id begin len access g G (answer.accepted k refl).0.pages (sym (answer.leaves s f g (lent f p) (base / 4096) id begin len access (Ok tt) k))
 
 pub protect_laws : ProtectLaws
 protect_laws = record { protects = protects; righted = new.righted }

@@ -1,4 +1,5 @@
 -- The table under a protect: each leaf over a changed page is written anew with its own address and the new rights, and nothing else changes.
+use Rattle.std.specs.Prelude.{None, Some}
 use Prim.Native.Nat.{ℕ, ◌/◌}
 use mathlib.Core.Path.{◌≡◌, refl, sym, ◌∙◌, ap, subst}
 use mathlib.Core.Bool.{Bool}
@@ -27,8 +28,6 @@ use Rattle.walk.specs.declared.OpenEntry.{OpenEntry}
 use Rattle.walk.proofs.Found.{over, unused}
 use Rattle.walk.proofs.Sizes.{size_level}
 use Rattle.table.specs.Table.{Updating, updated}
-use Rattle.table.specs.declared.NewAddr.TheVariants as addr
-use Rattle.table.specs.declared.NewFlags.TheVariants as flags
 use Rattle.table.proofs.Laws.{rewritten}
 use Rattle.table_laws.specs.Effects.{shows_in, Rewrites}
 use Rattle.table_laws.proofs.Effects.{shown_at}
@@ -109,7 +108,7 @@ module _ (p : List ℕ) (base used : ℕ) (G : Good p base used) (v g : ℕ) (Q 
         record { l = l; w = n; is = R.inside x (subst (λ (j : ℕ). x / span j ≡ v / span j) z1 b); kind = k'; flags = r };
   }
 
-  leaf_step : (e : LeafEntry) → found p (base / 4096) v ≡ Leaf e → Step Q base v p (updated p (base / 4096) v addr.Keep (flags.To (record { 0 = g }))).pool
+  leaf_step : (e : LeafEntry) → found p (base / 4096) v ≡ Leaf e → Step Q base v p (updated p (base / 4096) v None (Some (record { 0 = g }))).pool
   unfolding x86
   leaf_step e q =
       let o = over p (base / 4096) used G.formed v e q in
@@ -120,15 +119,15 @@ module _ (p : List ℕ) (base used : ℕ) (G : Good p base used) (v g : ℕ) (Q 
       let fits : Entry x86 o.l n = page (x86.addr w) g 0 o.low read.aligned (lit< tt) refl in
       let R = rewrites p base used G v o.l e.frame e.place n o.placed fits (leaf_bar wrote.kind) in
       let huge : is_huge e.size ≡ ltb 0 o.l = ap is_huge o.size ∙ sym (huge_level (size_at o.l)) ∙ ap (ltb 0) (size_level o.l o.low) in
-      let pool : (updated p (base / 4096) v addr.Keep (flags.To (record { 0 = g }))).pool ≡ put_word p e.frame e.place n =
-      ap (λ (u : Updating). u.pool) (rewritten p (base / 4096) v e q addr.Keep (flags.To (record { 0 = g })) refl)
+      let pool : (updated p (base / 4096) v None (Some (record { 0 = g }))).pool ≡ put_word p e.frame e.place n =
+      ap (λ (u : Updating). u.pool) (rewritten p (base / 4096) v e q None (Some (record { 0 = g })) refl)
       ∙ ap (λ (h : Bool). put_word p e.frame e.place (leaf_by h (x86.addr w) g 0)) huge in
       subst (λ (z : List ℕ). Step Q base v p z) (sym pool)
       (step_of (put_word p e.frame e.place n) o.l w n (shown_at p base used v G o.l e.frame e.place o.placed) o.kind wrote.kind wrote.addr (subst Q (sym wrote.flags) fit) R)
 
-  open_step : (o : OpenEntry) → found p (base / 4096) v ≡ Open o → Step Q base v p (updated p (base / 4096) v addr.Keep (flags.To (record { 0 = g }))).pool
+  open_step : (o : OpenEntry) → found p (base / 4096) v ≡ Open o → Step Q base v p (updated p (base / 4096) v None (Some (record { 0 = g }))).pool
   open_step o q =
-      let pool : (updated p (base / 4096) v addr.Keep (flags.To (record { 0 = g }))).pool ≡ p = rw q in
+      let pool : (updated p (base / 4096) v None (Some (record { 0 = g }))).pool ≡ p = rw q in
       let u = unused p (base / 4096) used G.formed v o q in
       let shown : shows_in p base v ≡ view o.level 0 = shown_at p base used v G o.level o.frame o.place u.placed ∙ ap (view o.level) u.blank in
       subst (λ (z : List ℕ). Step Q base v p z) (sym pool) (record {
@@ -143,10 +142,10 @@ module _ (p : List ℕ) (base used : ℕ) (G : Good p base used) (v g : ℕ) (Q 
             absurd (omega arith);
       })
 
-  pub step : Step Q base v p (updated p (base / 4096) v addr.Keep (flags.To (record { 0 = g }))).pool
+  pub step : Step Q base v p (updated p (base / 4096) v None (Some (record { 0 = g }))).pool
   step = go (found p (base / 4096) v) refl
     where
-      go : (r : Walk) → found p (base / 4096) v ≡ r → Step Q base v p (updated p (base / 4096) v addr.Keep (flags.To (record { 0 = g }))).pool
+      go : (r : Walk) → found p (base / 4096) v ≡ r → Step Q base v p (updated p (base / 4096) v None (Some (record { 0 = g }))).pool
       go (Leaf e) q = leaf_step e q
       go (Open o) q = open_step o q
 

@@ -1,6 +1,7 @@
 -- What `protect` means on a space that passes its check and a good pool; proofs/Laws has the proof. Document 01, 'Regions': "`protect` compares with closed ends: a
 -- child that merely touches gives 1, a touching mapping must grant the rights too"; 'Entries and translation': "`update` acts on the whole leaf over the address", so that
 -- rights may change outside the range too, and "On an unused entry the port answers 6", so that no address gains a frame.
+use Rattle.std.specs.Prelude.{Err, Ok, Result}
 use Rattle.std.specs.Prelude.{ℕ, ◌+◌, ◌*◌, ◌/◌, ◌≤◌, ◌<◌, ◌≡◌, true, List}
 use Rattle.paging.specs.Level.{span, Canonical}
 use Rattle.paging.specs.Table.{view, to}
@@ -14,14 +15,10 @@ use Rattle.space.specs.Space.{mapping_at, is_mapping, mapping_place}
 use Rattle.space.specs.Passes.{page_at, Passes}
 use Rattle.space.specs.declared.Space.{Space}
 use Rattle.table.specs.Table.{queried}
-use Rattle.table.specs.declared.QueryResult.{QueryResult}
-use Rattle.table.specs.declared.QueryResult.TheVariants as query
 use Rattle.table_laws.specs.Effects.{shows_in, translates_in}
 use Rattle.vmar_offset.specs.Offset.{slot_of}
 use Rattle.vmar_protect.specs.Protect.{with_rights, lent, ProtectDone, protected}
 use Rattle.vmar_protect_laws.specs.Answers.{Asked, Allowed, ProtectAnswers}
-use Rattle.vmar_protect.specs.declared.ProtectResult.{ProtectResult}
-use Rattle.vmar_protect.specs.declared.ProtectResult.TheVariants as result
 
 -- known page flags with the rights of `access`: exactly those, and their own USER and HUGE_PAGE
 pub record Righted (old access : ℕ) : Type 0 where
@@ -48,9 +45,9 @@ pub record InRange (s : Space) (r begin end i j : ℕ) : Type 0 where
   pub to : page_addr s i j < end
 
 -- two answers of `query` tell of one frame and one page size, or both of none; rights may differ
-pub data SameFrame : QueryResult → QueryResult → Type 0 where
-  none : (why : Refusal) → SameFrame (query.Refused why) (query.Refused why)
-  frame : (a : ℕ) (f g : MMUFlags) (z : PageSize) → SameFrame (query.Page a f z) (query.Page a g z)
+pub data SameFrame : (Result (ℕ × MMUFlags × PageSize) Refusal) → (Result (ℕ × MMUFlags × PageSize) Refusal) → Type 0 where
+  none : (why : Refusal) → SameFrame (Err why) (Err why)
+  frame : (a : ℕ) (f g : MMUFlags) (z : PageSize) → SameFrame (Ok (a, f, z)) (Ok (a, g, z))
 
 -- the entry that ends the walk of v is over x too
 abbrev pub Over : List ℕ → ℕ → ℕ → ℕ → Type 0
@@ -69,19 +66,19 @@ call s f p base id begin len access = protected s (lent f p) (base / 4096) id be
 
 pub record Protects (s : Space) (f p : List ℕ) (base used id begin len access : ℕ) : Type 0 where
   -- a refusal changes nothing
-  pub refused : (why : Refusal) → (call s f p base id begin len access).result ≡ result.Refused why
+  pub refused : (why : Refusal) → (call s f p base id begin len access).result ≡ Err why
       → ((call s f p base id begin len access).flags ≡ f) × ((call s f p base id begin len access).pool ≡ p)
   -- the space still passes its check, and the pool is still good
   pub passes : Passes s (call s f p base id begin len access).flags
   pub good : Good (call s f p base id begin len access).pool base used
   -- what the call answers, and no second answer fits
   pub answers : ProtectAnswers s id begin len access (call s f p base id begin len access).result
-  pub only : (x : ProtectResult) → ProtectAnswers s id begin len access x → x ≡ (call s f p base id begin len access).result
+  pub only : (x : Result (Unit {0}) Refusal) → ProtectAnswers s id begin len access x → x ≡ (call s f p base id begin len access).result
   -- so that an accepted one is on a live region, no child touches its range, and mappings that grant the rights hold it
-  pub asked : (call s f p base id begin len access).result ≡ result.Protected → Asked s id begin len access
-  pub allowed : (call s f p base id begin len access).result ≡ result.Protected → Allowed s (slot_of s id) begin (begin + len) access
+  pub asked : (call s f p base id begin len access).result ≡ Ok tt → Asked s id begin len access
+  pub allowed : (call s f p base id begin len access).result ≡ Ok tt → Allowed s (slot_of s id) begin (begin + len) access
   -- each page in the range has the rights
-  pub changes : (call s f p base id begin len access).result ≡ result.Protected
+  pub changes : (call s f p base id begin len access).result ≡ Ok tt
       → (i j : ℕ) → InRange s (slot_of s id) begin (begin + len) i j → page_at (call s f p base id begin len access).flags i j ≡ with_rights (page_at f i j) access
   -- and no other of the 32,768 page flags changes
   pub keeps : (i j : ℕ) → i < 64 → j < 512 → (InRange s (slot_of s id) begin (begin + len) i j → ⊥) → page_at (call s f p base id begin len access).flags i j ≡ page_at f i j
@@ -91,7 +88,7 @@ pub record Protects (s : Space) (f p : List ℕ) (base used id begin len access 
   pub elsewhere : (x : ℕ) → Canonical 4 x → ((i j : ℕ) → InRange s (slot_of s id) begin (begin + len) i j → Over p base (page_addr s i j) x → ⊥)
       → translates_in (call s f p base id begin len access).pool base x ≡ translates_in p base x
   -- and one that lies in a leaf over such a page has what an entry gives for the flags of the last such page, USER with them; all pages of one mapping give the same
-  pub given : (call s f p base id begin len access).result ≡ result.Protected → (i j : ℕ) → InRange s (slot_of s id) begin (begin + len) i j
+  pub given : (call s f p base id begin len access).result ≡ Ok tt → (i j : ℕ) → InRange s (slot_of s id) begin (begin + len) i j
       → (x a g : ℕ) → Canonical 4 x → Over p base (page_addr s i j) x → translates_in p base x ≡ to a g
       → (k : ℕ) × (m : ℕ) × LastOver s p base (slot_of s id) begin (begin + len) x k m
       × (translates_in (call s f p base id begin len access).pool base x ≡ to a (granted (with_rights (page_at f (mapping_place s k) m) access)))

@@ -6,12 +6,16 @@ use mathlib.Core.List.{List}
 use mathlib.Core.Logic.{◌⊎◌, inl, inr, ⊎_elim}
 use native.Mathlib.Omega.{arith}
 use native.Mathlib.Numerals.{add-one}
-use lib.Dec.{eqb, ltb}
+use lib.Dec.{ltb}
 use lib.ListN.{length, get_or, set, replicate, length-set, get_or-eq_default}
 use lib.Seq.{get_or-set_same, get_or-set_other}
+use Rattle.std.proofs.Common.{drop}
+use Rattle.std.proofs.Math.Seq.{paste}
+use Rattle.std.proofs.lemmas.List.{set-get_or, get_or-drop, length-drop, get_or-replicate, length-replicate}
+use Rattle.std.proofs.lemmas.List.Edits.{paste_none, paste_more}
 use borrow.Author.Tests.{lt-ltb, le-ltb, eq-eqb, ne_eqb}
 use Rattle.paging.specs.Choice.{pick}
-use Rattle.paging.proofs.Cases.{below?, same?, no_truth}
+use Rattle.paging.proofs.Cases.{below?, same?}
 use Rattle.scan.proofs.Scans.{tell, first_passes}
 use Rattle.space.specs.Space.{blank_region, blank_mapping, mapping_at, is_mapping, with_mapping}
 use Rattle.space.specs.Passes.{Passes}
@@ -20,92 +24,17 @@ use Rattle.space.specs.declared.Mapping.{Mapping}
 use Rattle.space.specs.declared.Space.{Space}
 use Rattle.space.proofs.Facts.{mapping_room}
 use Rattle.vmar_offset.specs.Offset.{is_free_mapping, free_mapping}
-use Rattle.vmar_prune.specs.Piece.{least, before, after, left, right, piece, is_split, copied, retained}
-use Rattle.vmar_prune.specs.Prune.{kept_region, kept_mapping, regions_to, mappings_to, Packed, packed, kept_slots, live_slots, pruned, splits, split_slot, cut_space, retained_to, handed_over}
-use Rattle.vmar_prune.specs.Steps.{Short, Fitting, packed_of, put_slot}
-
--- the lesser is no more than either
-least_l : (x y : ℕ) → least x y ≤ x
-least_l x y = ⊎_elim (λ (l : x < y). rw (lt-ltb x y l) (omega arith)) (λ (l : y ≤ x). rw (le-ltb x y l) (omega arith)) (below? x y)
-
-least_r : (x y : ℕ) → least x y ≤ y
-least_r x y = ⊎_elim (λ (l : x < y). rw (lt-ltb x y l) (omega arith)) (λ (l : y ≤ x). rw (le-ltb x y l) (omega arith)) (below? x y)
+use Rattle.vmar_prune.specs.Piece.{before, after, right, piece, copied, retained}
+use Rattle.vmar_prune.specs.Prune.{kept_mapping, regions_to, mappings_to, Packed, packed, kept_slots, live_slots, pruned, split_slot, cut_space, retained_to, handed_over}
+use Rattle.vmar_prune.specs.Steps.{Short, Fitting, packed_of}
 
 pub before_most : (m : Mapping) (b : ℕ) → before m b ≤ m.size
 unfolding before
-before_most m b = least_l m.size (b - m.addr)
+before_most m b = omega arith
 
 pub after_most : (m : Mapping) (e : ℕ) → after m e ≤ m.size
 unfolding after
-after_most m e = least_l m.size (m.addr + m.size - e)
-
-pub before_none : (m : Mapping) (b : ℕ) → b < m.addr → 0 ≡ before m b
-unfolding before
-before_none m b l = let z = least_r m.size (b - m.addr) in omega arith
-
-pub after_none : (m : Mapping) (e : ℕ) → m.addr + m.size < e → 0 ≡ after m e
-unfolding after
-after_none m e l = let z = least_r m.size (m.addr + m.size - e) in omega arith
-
-pub before_is : (m : Mapping) (b n : ℕ) → n ≡ least m.size (b - m.addr) → n ≡ before m b
-unfolding before
-before_is m b n e = e
-
-pub after_is : (m : Mapping) (e n : ℕ) → n ≡ least m.size (m.addr + m.size - e) → n ≡ after m e
-unfolding after
-after_is m e n q = q
-
-module _ (m : Mapping) (b e : ℕ) where
-  -- what the slot keeps
-  pub keeps_left : (n : ℕ) → n ≡ before m b → (n ≡ 0 → ⊥) → left m n ≡ piece m b e
-  unfolding piece
-  keeps_left n q some = rw (sym q, ne_eqb n 0 some)
-
-  pub keeps_right : (n k : ℕ) → n ≡ before m b → n ≡ 0 → k ≡ after m e → (k ≡ 0 → ⊥) → right m k ≡ piece m b e
-  unfolding piece
-  keeps_right n k q none a some = rw (sym q, eq-eqb n 0 none, sym a, ne_eqb k 0 some)
-
-  pub keeps_none : (n k : ℕ) → n ≡ before m b → n ≡ 0 → k ≡ after m e → k ≡ 0 → blank_mapping ≡ piece m b e
-  unfolding piece
-  keeps_none n k q none a nil = rw (sym q, eq-eqb n 0 none, sym a, eq-eqb k 0 nil)
-
-  -- whether it is split
-  module _ (r : ℕ) where
-    pub split_free : m.live ≡ false → false ≡ splits m r b e
-    unfolding splits
-    split_free l = rw l
-
-    module _ (l : m.live ≡ true) where
-      pub split_other : (m.region ≡ r → ⊥) → false ≡ splits m r b e
-      unfolding splits
-      split_other q = rw (l, ne_eqb m.region r q)
-
-      module _ (q : m.region ≡ r) where
-        pub split_left : (n : ℕ) → n ≡ before m b → n ≡ 0 → false ≡ splits m r b e
-        unfolding splits is_split before
-        split_left n z none = rw (l, eq-eqb m.region r q, sym z, eq-eqb n 0 none)
-
-        pub split_both : (n k : ℕ) → n ≡ before m b → (n ≡ 0 → ⊥) → k ≡ after m e → not (eqb k 0) ≡ splits m r b e
-        unfolding splits is_split before after
-        split_both n k z some a = rw (l, eq-eqb m.region r q, sym z, ne_eqb n 0 some, sym a)
-
-  pub split_some : (r : ℕ) → splits m r b e ≡ true → m.live ≡ true
-  unfolding splits
-  split_some r t = ⊎_elim (λ (l : m.live ≡ true). l) (λ (l : m.live ≡ false). no_truth (rw l at t)) (tell m.live)
-
-  -- what is kept by the region's mark
-  module _ (marks : List Bool) (r : ℕ) where
-    pub kept_doomed : get_or marks m.region false ≡ true → blank_mapping ≡ kept_mapping marks r b e m
-    unfolding kept_mapping
-    kept_doomed d = rw d
-
-    pub kept_other : get_or marks m.region false ≡ false → (m.region ≡ r → ⊥) → m ≡ kept_mapping marks r b e m
-    unfolding kept_mapping
-    kept_other d q = rw (d, ne_eqb m.region r q)
-
-    pub kept_own : get_or marks m.region false ≡ false → m.region ≡ r → (k : Mapping) → k ≡ piece m b e → k ≡ kept_mapping marks r b e m
-    unfolding kept_mapping
-    kept_own d q k c = rw (d, eq-eqb m.region r q) c
+after_most m e = omega arith
 
 -- a mapping's slot of a space that passes its check: ends do not overflow, and the region is a slot
 pub short_at : (s : Space) (f : List ℕ) → Passes s f → (i : ℕ) → i < 64 → Short (mapping_at s i) × ((mapping_at s i).region < 32) × ((mapping_at s i).size / 4096 ≤ 512)
@@ -118,14 +47,23 @@ short_at s f p i l = by (is_mapping s i) refl
     by true a = let z = p.paged i l a in ((z.end, z.vmo_end), (p.inner.region i l a).0, z.few)
     by false a = subst Good (sym (p.blank.mapping i l a)) ((omega arith, omega arith), omega arith, omega arith)
 
--- one slot more
-pub regions_more : (marks : List Bool) (l : List Region) (i : ℕ) → set (regions_to marks l i) i (kept_region marks i (get_or l i blank_region)) ≡ regions_to marks l (i + 1)
-unfolding regions_to
-regions_more marks l i = rw (add-one i)
-
+-- one slot more; a region that stays is written over by itself
 pub regions_none : (marks : List Bool) (l : List Region) → l ≡ regions_to marks l 0
 unfolding regions_to
 regions_none marks l = refl
+
+regions_rest : (marks : List Bool) (l : List Region) (n i : ℕ) → n ≤ i → get_or (regions_to marks l n) i blank_region ≡ get_or l i blank_region
+unfolding regions_to
+regions_rest marks l zero i h = refl
+regions_rest marks l (suc n) i h = get_or-set_other (regions_to marks l n) n i _ blank_region (λ q. omega (arith, q)) ∙ regions_rest marks l n i (omega arith)
+
+pub regions_gone : (marks : List Bool) (l : List Region) (i : ℕ) → get_or marks i false ≡ true → set (regions_to marks l i) i blank_region ≡ regions_to marks l (i + 1)
+unfolding regions_to
+regions_gone marks l i e = rw (add-one i, e)
+
+pub regions_kept : (marks : List Bool) (l : List Region) (i : ℕ) → get_or marks i false ≡ false → regions_to marks l i ≡ regions_to marks l (i + 1)
+unfolding regions_to
+regions_kept marks l i e = sym (set-get_or (regions_to marks l i) i blank_region) ∙ rw (regions_rest marks l i i (omega arith), add-one i, e)
 
 pub mappings_more : (marks : List Bool) (r b e : ℕ) (l : List Mapping) (i : ℕ)
     → set (mappings_to marks r b e l i) i (kept_mapping marks r b e (get_or l i blank_mapping)) ≡ mappings_to marks r b e l (i + 1)
@@ -140,34 +78,25 @@ pub packed_none : (keeps : ℕ → Bool) (blank list : List ℕ) → packed_of b
 unfolding packed
 packed_none keeps blank list = refl
 
-pub packed_more : (keeps : ℕ → Bool) (blank list : List ℕ) (k : ℕ) → put_slot (keeps (get_or list k 0)) (get_or list k 0) (packed keeps blank list k) ≡ packed keeps blank list (k + 1)
+module _ (keeps : ℕ → Bool) (blank list : List ℕ) (k : ℕ) where
+  pub packed_without : keeps (get_or list k 0) ≡ false → packed keeps blank list k ≡ packed keeps blank list (k + 1)
+  unfolding packed
+  packed_without e = rw (add-one k, e)
+
+  pub packed_with : (l : List ℕ) (n : ℕ) → keeps (get_or list k 0) ≡ true → packed_of l n ≡ packed keeps blank list k
+      → packed_of (set l n (get_or list k 0)) (n + 1) ≡ packed keeps blank list (k + 1)
+  unfolding packed
+  packed_with l n e q = ap (λ (p : Packed). packed_of (set p.list p.count (get_or list k 0)) (p.count + 1)) q ∙ rw (add-one k, e)
+
+-- two tests that agree on the slots of the first n places, which two lists share
+pub packed_same : (p q : ℕ → Bool) (blank l m : List ℕ) (n : ℕ) → ((k : ℕ) → k < n → get_or l k 0 ≡ get_or m k 0) → ((k : ℕ) → k < n → p (get_or m k 0) ≡ q (get_or m k 0))
+    → packed p blank l n ≡ packed q blank m n
 unfolding packed
-packed_more keeps blank list k = rw (add-one k)
+packed_same p q blank l m zero same agree = refl
+packed_same p q blank l m (suc n) same agree =
+    rw (packed_same p q blank l m n (λ k h. same k (omega arith)) (λ k h. agree k (omega arith)), same n (omega arith), agree n (omega arith))
 
--- as many places count as were kept
-pub put_count : (keeps : Bool) (x : ℕ) (q : Packed) → (q.count ≤ (put_slot keeps x q).count) × ((put_slot keeps x q).count ≤ q.count + 1) × (length (put_slot keeps x q).list ≡ length q.list)
-put_count true x q = (omega arith, omega arith, length-set q.list q.count x)
-put_count false x q = (omega arith, omega arith, refl)
-
--- one turn of the packing, by what `put` says
-pub packed_turn : (keeps : ℕ → Bool) (blank list l l' : List ℕ) (k n n' : ℕ) → packed_of l n ≡ packed keeps blank list k
-    → packed_of l' n' ≡ put_slot (keeps (get_or list k 0)) (get_or list k 0) (packed_of l n) → packed_of l' n' ≡ packed keeps blank list (k + 1)
-packed_turn keeps blank list l l' k n n' p q = q ∙ ap (put_slot (keeps (get_or list k 0)) (get_or list k 0)) p ∙ packed_more keeps blank list k
-
-pub put_size : (keeps : Bool) (x : ℕ) (l l' : List ℕ) (n n' : ℕ) → packed_of l' n' ≡ put_slot keeps x (packed_of l n) → (n' ≤ n + 1) × (length l' ≡ length l)
-put_size keeps x l l' n n' q =
-    let c = put_count keeps x (packed_of l n) in
-    (subst (λ (k : ℕ). k ≤ n + 1) (sym (ap (λ (y : Packed). y.count) q)) c.1, ap (λ (y : Packed). length y.list) q ∙ c.2)
-
--- copying: the bytes that are read have not been written over
-pub copied_none : (f : List ℕ) (to from n : ℕ) → f ≡ copied f to from n 0
-unfolding copied
-copied_none f to from n = refl
-
-pub copied_more : (f : List ℕ) (to from n j : ℕ) → set (copied f to from n j) (to + j) (pick (ltb j n) (get_or f (from + j) 0) 0) ≡ copied f to from n (j + 1)
-unfolding copied
-copied_more f to from n j = rw (add-one j)
-
+-- copying
 pub copied_length : (f : List ℕ) (to from n j : ℕ) → length (copied f to from n j) ≡ length f
 unfolding copied
 copied_length f to from n zero = refl
@@ -180,24 +109,37 @@ copied_else f to from n (suc j) x o =
     get_or-set_other (copied f to from n j) (to + j) x _ 0 (λ q. ⊎_elim (λ (l : x < to). omega (arith, q)) (λ (l : to + suc j ≤ x). omega (arith, q)) o)
     ∙ copied_else f to from n j x (⊎_elim (λ (l : x < to). inl l) (λ (l : to + suc j ≤ x). inr (omega arith)) o)
 
--- what is read at step j is the old byte
-pub byte_read : (f : List ℕ) (to from n j : ℕ) → (to ≤ from) ⊎ (from + n ≤ to)
-    → pick (ltb j n) (get_or (copied f to from n j) (from + j) 0) 0 ≡ pick (ltb j n) (get_or f (from + j) 0) 0
-byte_read f to from n j apart = ⊎_elim
-    (λ (l : j < n). ap (λ (x : ℕ). pick (ltb j n) x 0) (copied_else f to from n j (from + j) (⊎_elim (λ (q : to ≤ from). inr (omega arith)) (λ (q : from + n ≤ to). inl (omega arith)) apart)))
-    (λ (l : n ≤ j). rw (le-ltb j n l))
-    (below? j n)
+-- the first n bytes are pasted, and then zeros
+copied_first : (f : List ℕ) (to from n j : ℕ) → j ≤ n → to + j ≤ length f → from + j ≤ length f → copied f to from n j ≡ paste f to (drop from f) j
+unfolding copied
+copied_first f to from n zero h a b = paste_none f to (drop from f)
+copied_first f to from n (suc j) h a b =
+    let l = lt-ltb j n (omega arith) in
+    let m : j + 1 ≡ suc j = omega arith in
+    rw (copied_first f to from n j (omega arith) (omega arith) (omega arith), l, sym (get_or-drop from f j 0))
+    (rw m at (paste_more f to (drop from f) j 0 (omega arith) (omega (arith, length-drop from f))))
 
--- a slot's flags as its mapping keeps them
-pub retained_all : (m k : Mapping) (f : List ℕ) (i : ℕ) → k.size ≡ m.size → f ≡ retained m k f i
-unfolding retained
-retained_all m k f i e = rw (eq-eqb k.size m.size e)
+copied_rest : (f : List ℕ) (to from n m k : ℕ) → k ≤ m → to + n + m ≤ length f → copied f to from n (n + k) ≡ paste (copied f to from n n) (to + n) (replicate m 0) k
+unfolding copied
+copied_rest f to from n m zero h a = let z : n + 0 ≡ n = omega arith in rw z (paste_none _ (to + n) (replicate m 0))
+copied_rest f to from n m (suc k) h a =
+    let z : n + suc k ≡ suc (n + k) = omega arith in
+    let l = le-ltb (n + k) n (omega arith) in
+    let q : to + (n + k) ≡ to + n + k = omega arith in
+    let s : k + 1 ≡ suc k = omega arith in
+    let g = get_or-replicate {A = ℕ} m k 0 0 (omega arith) in
+    let zeros : List ℕ = replicate m 0 in
+    let long : length zeros ≡ m = length-replicate {A = ℕ} m 0 in
+    rw (z, copied_rest f to from n m k (omega arith) a, l, q)
+    (rw (s, g) at (paste_more (copied f to from n n) (to + n) zeros k 0 (omega (arith, copied_length f to from n n)) (subst (λ (x : ℕ). k < x) (sym long) (omega arith))))
 
-pub retained_part : (m k : Mapping) (f : List ℕ) (i x n : ℕ) → (k.size ≡ m.size → ⊥) → x ≡ k.addr - m.addr
-    → copied f (i * 512) (i * 512 + x / 4096) (k.size / 4096) 512 ≡ retained m k f i
-unfolding retained
-retained_part m k f i x n e q = rw (ne_eqb k.size m.size e, q)
+pub copied_pasted : (f : List ℕ) (to from n : ℕ) → n ≤ 512 → to + 512 ≤ length f → from + n ≤ length f
+    → paste (paste f to (drop from f) n) (to + n) (replicate (512 - n) 0) (512 - n) ≡ copied f to from n 512
+copied_pasted f to from n h a b =
+    let z : n + (512 - n) ≡ 512 = omega arith in
+    rw (sym (copied_first f to from n n (omega arith) (omega arith) b)) (sym (rw z at (copied_rest f to from n (512 - n) (512 - n) (omega arith) (omega arith))))
 
+-- a slot's flags
 pub retained_length : (m k : Mapping) (f : List ℕ) (i : ℕ) → length (retained m k f i) ≡ length f
 unfolding retained
 retained_length m k f i = ⊎_elim

@@ -6,20 +6,17 @@
 --     middle   [---xxxx---]    both: the mapping keeps those before b, and a new one takes those from e on
 --
 -- A mapping outside the range keeps all its bytes on one side. Page flags move by pages and VMO offsets along with them; document 01, 'Traps': "Trimming page flags by bytes".
-use Rattle.std.specs.Prelude.{ℕ, zero, suc, ◌+◌, ◌-◌, ◌*◌, ◌/◌, Bool, false, not, List, eqb, ltb, get_or, set}
+use Rattle.std.specs.Prelude.{ℕ, zero, suc, ◌+◌, ◌-◌, ◌*◌, ◌/◌, min, Bool, false, not, List, eqb, ltb, get_or, set}
 use Rattle.paging.specs.Choice.{pick}
 use Rattle.space.specs.Space.{blank_mapping}
 use Rattle.space.specs.declared.Mapping.{Mapping}
 
-abbrev pub least : ℕ → ℕ → ℕ
-least x y = pick (ltb x y) x y
-
 -- how many bytes are kept before b, and from e on
 unfoldable pub before : Mapping → ℕ → ℕ
-before m b = least m.size (b - m.addr)
+before m b = min m.size (b - m.addr)
 
 unfoldable pub after : Mapping → ℕ → ℕ
-after m e = least m.size (m.addr + m.size - e)
+after m e = min m.size (m.addr + m.size - e)
 
 -- the mapping of the first n bytes, and that of the last n
 abbrev pub left : Mapping → ℕ → Mapping

@@ -1,6 +1,5 @@
 -- What the code's parts go by.
-use Rattle.std.specs.Prelude.{ℕ, ◌+◌, ◌-◌, ◌/◌, ◌^◌, ◌≤◌, ◌<◌, Bool, List, set}
-use Rattle.paging.specs.Choice.{pick}
+use Rattle.std.specs.Prelude.{ℕ, ◌+◌, ◌-◌, ◌/◌, ◌^◌, ◌≤◌, ◌<◌, List}
 use Rattle.space.specs.declared.Mapping.{Mapping}
 use Rattle.vmar_prune.specs.Prune.{Packed}
 
@@ -14,7 +13,3 @@ Fitting m k = (k.addr - m.addr) / 4096 + k.size / 4096 ≤ 512
 
 abbrev pub packed_of : List ℕ → ℕ → Packed
 packed_of list n = record { list = list; count = n }
-
--- one slot more, if it is kept
-abbrev pub put_slot : Bool → ℕ → Packed → Packed
-put_slot keeps x q = pick keeps (record { list = set q.list q.count x; count = q.count + 1 }) q

@@ -1,13 +1,13 @@
 -- What a slot keeps of its mapping: nothing, all of it, or a part.
-use Prim.Native.Nat.{ℕ, ◌+◌, ◌-◌, ◌*◌, ◌/◌, ◌%◌, ◌≤◌, ◌<◌}
-use mathlib.Core.Path.{◌≡◌, refl, sym, subst}
+use Prim.Native.Nat.{ℕ, ◌+◌, ◌-◌, ◌*◌, ◌/◌, ◌%◌, ◌≤◌, ◌<◌, min}
+use mathlib.Core.Path.{◌≡◌, refl}
 use mathlib.Core.Bool.{Bool, true, false, not}
 use mathlib.Core.List.{List}
 use mathlib.Core.Logic.{inl, inr, ⊎_elim}
 use native.Mathlib.Omega.{arith}
 use lib.Dec.{eqb}
 use lib.ListN.{get_or}
-use borrow.Author.Tests.{eqb-true, eqb-false, eq-eqb, ne_eqb, lt-ltb, le-ltb}
+use borrow.Author.Tests.{eqb-true, eqb-false, eq-eqb, ne_eqb}
 use Rattle.paging.specs.Choice.{pick}
 use Rattle.paging.proofs.Cases.{below?, no_truth}
 use Rattle.scan.proofs.Scans.{tell}
@@ -16,54 +16,44 @@ use Rattle.space.specs.Space.{blank_mapping}
 use Rattle.space.specs.Passes.{Paged}
 use Rattle.space.specs.declared.Mapping.{Mapping}
 use Rattle.space.proofs.Ranges.{apart, apart_of, inner, inner_of}
-use Rattle.vmar_prune.specs.Piece.{least, before, after, left, right, piece, is_split}
+use Rattle.vmar_prune.specs.Piece.{before, after, left, right, piece, is_split}
 use Rattle.vmar_prune.specs.Prune.{kept_mapping, splits}
 use Rattle.vmar_prune_laws.specs.Part.{PartOf}
 
--- the lesser of two numbers
-least_of : (P : ℕ → Type 0) (x y : ℕ) → (x ≤ y → P x) → (y ≤ x → P y) → P (least x y)
-least_of P x y a c =
+-- the lesser of two numbers of whole pages
+min_pages : (x y : ℕ) → x % 4096 ≡ 0 → y % 4096 ≡ 0 → min x y % 4096 ≡ 0
+min_pages x y h k =
     ⊎_elim
-    (λ (l : x < y). subst (λ (t : Bool). P (pick t x y)) (sym (lt-ltb x y l)) (a (omega arith)))
-    (λ (l : y ≤ x). subst (λ (t : Bool). P (pick t x y)) (sym (le-ltb x y l)) (c l))
+    (λ (l : x < y). let z : min x y ≡ x = omega arith in rw z h)
+    (λ (l : y ≤ x). let z : min x y ≡ y = omega arith in rw z k)
     (below? x y)
-
-module _ (x y : ℕ) where
-  least_most : (least x y ≤ x) × (least x y ≤ y)
-  least_most = least_of (λ (n : ℕ). (n ≤ x) × (n ≤ y)) x y (λ l. (omega arith, l)) (λ l. (l, omega arith))
-
-  least_least : (n : ℕ) → n ≤ x → n ≤ y → n ≤ least x y
-  least_least n h k = least_of (λ (z : ℕ). n ≤ z) x y (λ l. h) (λ l. k)
-
-  least_pages : x % 4096 ≡ 0 → y % 4096 ≡ 0 → least x y % 4096 ≡ 0
-  least_pages h k = least_of (λ (z : ℕ). z % 4096 ≡ 0) x y (λ l. h) (λ l. k)
 
 -- how much of a mapping lies before b, and from e on
 module _ (m : Mapping) (b : ℕ) where
   pub before_most : (before m b ≤ m.size) × (before m b ≤ b - m.addr)
   unfolding before
-  before_most = least_most m.size (b - m.addr)
+  before_most = (omega arith, omega arith)
 
   pub before_least : (n : ℕ) → n ≤ m.size → n ≤ b - m.addr → n ≤ before m b
   unfolding before
-  before_least = least_least m.size (b - m.addr)
+  before_least n h k = omega arith
 
   pub before_pages : Paged m → b % 4096 ≡ 0 → before m b % 4096 ≡ 0
   unfolding before
-  before_pages p h = let a = p.addr in least_pages m.size (b - m.addr) p.size (omega arith)
+  before_pages p h = let a = p.addr in min_pages m.size (b - m.addr) p.size (omega arith)
 
 module _ (m : Mapping) (e : ℕ) where
   pub after_most : (after m e ≤ m.size) × (after m e ≤ m.addr + m.size - e)
   unfolding after
-  after_most = least_most m.size (m.addr + m.size - e)
+  after_most = (omega arith, omega arith)
 
   pub after_least : (n : ℕ) → n ≤ m.size → n ≤ m.addr + m.size - e → n ≤ after m e
   unfolding after
-  after_least = least_least m.size (m.addr + m.size - e)
+  after_least n h k = omega arith
 
   pub after_pages : Paged m → e % 4096 ≡ 0 → after m e % 4096 ≡ 0
   unfolding after
-  after_pages p h = let a = p.addr in let z = p.size in least_pages m.size (m.addr + m.size - e) z (omega arith)
+  after_pages p h = let a = p.addr in let z = p.size in min_pages m.size (m.addr + m.size - e) z (omega arith)
 
 -- what is kept: nothing, the end, or the beginning
 pub data Piece (m : Mapping) (b e : ℕ) : Mapping → Type 0 where

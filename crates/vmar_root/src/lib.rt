@@ -6,8 +6,8 @@ ghost use Rattle.vmar_root.specs.Root.{new_space};
 
 use common::defs::VirtAddr;
 use space::{
-    KERNEL_ASPACE_BASE, KERNEL_ASPACE_SIZE, Mapping, NO_REGION, Region, Space, USER_ASPACE_BASE,
-    USER_ASPACE_SIZE,
+    KERNEL_ASPACE_BASE, KERNEL_ASPACE_SIZE, MAPPINGS, Mapping, NO_REGION, REGIONS, Region, Space,
+    USER_ASPACE_BASE, USER_ASPACE_SIZE,
 };
 
 // CAN_MAP_READ, CAN_MAP_WRITE, CAN_MAP_EXECUTE and CAN_MAP_SPECIFIC.
@@ -17,47 +17,27 @@ const ROOT_FLAGS: u64 = 0x78;
 fn new_space(addr: VirtAddr, size: u64) -> Space
     ensures { result ≡ new_space addr size }
 {
-    let free = Region {
-        live: false,
-        id: 0,
-        addr: 0,
-        size: 0,
-        flags: 0,
-        parent: 0,
-    };
-    let unmapped = Mapping {
-        live: false,
-        region: 0,
-        addr: 0,
-        size: 0,
-        vmo: 0,
-        offset: 0,
-        permissions: 0,
-    };
-    let mut regions = [free; 32];
+    let mut regions = [Region::BLANK; REGIONS];
     regions[0] = Region {
         live: true,
         id: 0,
-        addr: addr,
-        size: size,
+        addr,
+        size,
         flags: ROOT_FLAGS,
         parent: NO_REGION,
     };
-    let mappings = [unmapped; 64];
-    let reglist = [0usize; 32];
-    let maplist = [0usize; 64];
     Space {
-        regions: regions,
-        mappings: mappings,
-        reglist: reglist,
+        regions,
+        mappings: [Mapping::BLANK; MAPPINGS],
+        reglist: [0; REGIONS],
         regcount: 1,
-        maplist: maplist,
+        maplist: [0; MAPPINGS],
         mapcount: 0,
         nextid: 1,
     }
 }
 
-// A space with a user root.
+// A space with a user root. Both names are the Rust's.
 pub fn new_root() -> Space
     ensures { result ≡ new_space 0x200000 0x7fffffdff000 }
 {

@@ -1,54 +1,54 @@
 -- The calls by what their tests show.
-use Prim.Native.Nat.{ℕ, ◌+◌, ◌-◌, ◌*◌, ◌/◌, ◌%◌, ◌≤◌, ◌<◌}
+use Prim.Native.Nat.{ℕ, ◌+◌, ◌*◌, ◌/◌, ◌%◌, ◌<◌}
 use mathlib.Core.Path.{◌≡◌, sym, ◌∙◌, ap}
 use mathlib.Core.Bool.{Bool, true, false, not}
 use mathlib.Core.List.{List}
 use mathlib.Core.Logic.{⊎_elim}
 use native.Mathlib.Omega.{arith}
 use lib.Dec.{eqb, leb, ltb}
-use borrow.Author.Tests.{lt-ltb, le-ltb, eq-eqb, ne_eqb, eqb-true}
-use Rattle.paging.specs.Choice.{pick}
-use Rattle.paging.proofs.Cases.{same?, no_truth}
+use borrow.Author.Tests.{lt-ltb, eq-eqb, ne_eqb, eqb-true, ltb-true, ltb-false}
+use Rattle.std.proofs.Common.{Option, Ok}
+use Rattle.std.specs.Option.{is_some}
+use Rattle.scan.specs.Scan.{below, some}
 use Rattle.refusal.specs.declared.Refusal.TheVariants.{InvalidArgs, BadState, NoFrames, NoSlot, BadHandle, ChildDead}
-use Rattle.scan.specs.Scan.{some}
+use Rattle.paging.proofs.Cases.{same?, no_truth}
 use Rattle.scan.proofs.Scans.{tell, first_passes, first_most}
 use Rattle.vm.specs.Align.{multiple}
-use Rattle.space.specs.Range.{inside}
 use Rattle.space.specs.Space.{mapping_at}
 use Rattle.space.specs.declared.Mapping.{Mapping}
-use Rattle.space.specs.declared.Region.{Region}
 use Rattle.space.specs.declared.Space.{Space}
 use Rattle.table_cuts.specs.Cuts.{Cut, cut_all, non_empty}
-use Rattle.vmar_offset.specs.Offset.{slot_of, is_free_mapping, free_mapping, child_meets}
+use Rattle.vmar_offset.specs.Offset.{slot_of, is_free_mapping, free_mapping}
 use Rattle.vmar_doom.specs.Doomed.{marked}
 use Rattle.vmar_cuts.specs.Cuts.{END, unmap_cuts, destroy_cuts}
 use Rattle.vmar_prune.specs.Piece.{before, is_split}
 use Rattle.vmar_prune.specs.Prune.{splits, split_at, split_slot, cut_space, cut_flags}
-use Rattle.vmar_unmap.specs.Unmap.{State, done, tables_of, refused, free_frames, cut_state, is_partly, partly_at, has_dead, lacks_slot, cut_range, in_region, unmapped, going_with, cleared, cleared_call}
-use Rattle.vmar_unmap.specs.declared.CutResult.TheVariants as result
+use Rattle.vmar_unmap.specs.Unmap.{State, state, tables_of, refused, free_frames, cut_state, partly_at, has_dead, lacks_slot, cut_range, in_region, unmapped, going_with, cleared, cleared_call}
 
 -- a multiple of 4096 leaves nothing over
 pub whole_pages : (x : ℕ) → multiple x 4096 ≡ true → x % 4096 ≡ 0
 whole_pages x e = eqb-true (x % 4096) 0 e
 
--- a child that the range meets in part
-pub apart_child : (g : Region) (r b e : ℕ) → child_meets g r b (e - b) ≡ false → false ≡ is_partly g r b e
-unfolding is_partly
-apart_child g r b e m = rw m
-
-pub meets_child_lem : (g : Region) (r b e : ℕ) (t : Bool) → child_meets g r b (e - b) ≡ true → t ≡ inside g.addr g.size b (e - b) → not t ≡ is_partly g r b e
-unfolding is_partly
-meets_child_lem g r b e t m i = rw (m, i)
+-- whether a slot was found
+found : (n i : ℕ) → is_some (below n i) ≡ ltb i n
+found n i = ⊎_elim (λ (t : ltb i n ≡ true). rw t) (λ (t : ltb i n ≡ false). rw t) (tell (ltb i n))
 
 -- a split and its slot
-module _ (s : Space) (r b e i : ℕ) (q : i ≡ split_slot s r b e) where
-  pub no_split : 64 ≤ i → false ≡ lacks_slot s r b e
+module _ (s : Space) (r b e : ℕ) (o : Option ℕ) (z : o ≡ below 64 (split_slot s r b e)) where
+  pub no_split : is_some o ≡ false → false ≡ lacks_slot s r b e
   unfolding lacks_slot
-  no_split l = rw (sym q, le-ltb i 64 l)
+  no_split n = let l = sym (found 64 (split_slot s r b e)) ∙ ap is_some (sym z) ∙ n in rw l
 
-  pub a_split : i < 64 → (f : ℕ) → f ≡ free_mapping s → eqb f 64 ≡ lacks_slot s r b e
+  pub a_split : is_some o ≡ true → (p : Option ℕ) → p ≡ below 64 (free_mapping s) → (t : Bool) → is_some p ≡ not t → t ≡ lacks_slot s r b e
   unfolding lacks_slot
-  a_split l f z = rw (sym q, lt-ltb i 64 l, z)
+  a_split n p y t m =
+      let l = sym (found 64 (split_slot s r b e)) ∙ ap is_some (sym z) ∙ n in
+      let k = sym (found 64 (free_mapping s)) ∙ ap is_some (sym y) ∙ m in
+      rw l (by t k)
+    where
+      by : (t : Bool) → ltb (free_mapping s) 64 ≡ not t → t ≡ eqb (free_mapping s) 64
+      by true q = let most = first_most (is_free_mapping s) 64 in let past = ltb-false (free_mapping s) 64 q in sym (eq-eqb (free_mapping s) 64 (omega arith))
+      by false q = let l = ltb-true (free_mapping s) 64 q in sym (ne_eqb (free_mapping s) 64 (λ x. omega arith))
 
 -- where slots are not short, a split has one
 pub has_slot : (s : Space) (r b e : ℕ) → lacks_slot s r b e ≡ false → split_slot s r b e < 64 → free_mapping s < 64
@@ -63,10 +63,7 @@ has_slot s r b e f l =
 -- nothing is kept before address 0, so that cutting all splits nothing
 before_zero : (m : Mapping) → before m 0 ≡ 0
 unfolding before
-before_zero m = let z : 0 - m.addr ≡ 0 = omega arith in rw z (none m.size)
-  where
-    none : (n : ℕ) → pick (ltb n 0) n 0 ≡ 0
-    none n = rw (le-ltb n 0 (omega arith))
+before_zero m = omega arith
 
 all_whole : (m : Mapping) (r e : ℕ) → splits m r 0 e ≡ true → ⊥
 unfolding splits is_split before
@@ -102,7 +99,7 @@ module _ (base : ℕ) (st : State) (r b e : ℕ) (short : Bool) where
         range_frames n = rw (p, d, z, n)
 
         pub range_cut : leb (4 * non_empty (unmap_cuts st.space r b e)) (free_frames st) ≡ true
-            → record { result = result.Done; state = cut_state base st (marked st.space r b e) (unmap_cuts st.space r b e) r b e } ≡ cut_range base st r b e short
+            → record { result = Ok tt; state = cut_state base st (marked st.space r b e) (unmap_cuts st.space r b e) r b e } ≡ cut_range base st r b e short
         unfolding cut_range
         range_cut n = rw (p, d, z, n)
 
@@ -156,7 +153,7 @@ module _ (base : ℕ) (st : State) (r : ℕ) (itself : Bool) where
     clear_frames n = rw (d, n)
 
     pub clear_cut : leb (4 * non_empty (destroy_cuts st.space r)) (free_frames st) ≡ true
-        → record { result = result.Done; state = cut_state base st (going_with st.space r itself) (destroy_cuts st.space r) r 0 END } ≡ cleared base st r itself
+        → record { result = Ok tt; state = cut_state base st (going_with st.space r itself) (destroy_cuts st.space r) r 0 END } ≡ cleared base st r itself
     unfolding cleared
     clear_cut n = rw (d, n)
 
@@ -177,9 +174,8 @@ module _ (base : ℕ) (st : State) (id : ℕ) (itself : Bool) where
 -- a cut, put together
 pub cut_made : (base : ℕ) (st : State) (marks marks' : List Bool) (cuts : List Cut) (r b e : ℕ) (s : Space) (f p : List ℕ) (u : ℕ)
     → record { pool = p; used = u } ≡ cut_all (base / 4096) cuts (tables_of st) → marks ≡ marks'
-    → s ≡ cut_space st.space marks r b e → f ≡ cut_flags st.space st.flags marks r b e
-    → done (record { result = result.Done; space = s; used = u }) f p ≡ record { result = result.Done; state = cut_state base st marks' cuts r b e }
+    → s ≡ cut_space st.space marks r b e → f ≡ cut_flags st.space st.flags marks r b e → state s f p u ≡ cut_state base st marks' cuts r b e
 cut_made base st marks marks' cuts r b e s f p u e1 e2 e3 e4 =
     let e5 = e3 ∙ ap (λ (m : List Bool). cut_space st.space m r b e) e2 in
     let e6 = e4 ∙ ap (λ (m : List Bool). cut_flags st.space st.flags m r b e) e2 in
-    λ i. record { result = result.Done; state = record { space = e5 i; flags = e6 i; pool = (e1 i).pool; used = (e1 i).used } }
+    λ i. record { space = e5 i; flags = e6 i; pool = (e1 i).pool; used = (e1 i).used }

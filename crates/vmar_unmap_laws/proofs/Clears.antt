@@ -1,4 +1,5 @@
 -- The laws of clear and destroy.
+use Rattle.std.specs.Prelude.{Result, Ok, Err}
 use Prim.Native.Nat.{ℕ, ◌*◌}
 use mathlib.Core.Path.{◌≡◌, refl, sym, ◌∙◌, ap, subst}
 use mathlib.Core.Bool.{Bool, true, false}
@@ -19,8 +20,6 @@ use Rattle.vmar_laws.specs.Later.{Later}
 use Rattle.vmar_laws.proofs.Later.{later_none}
 use Rattle.vmar_cuts.specs.Cuts.{END, destroy_cuts}
 use Rattle.vmar_unmap.specs.Unmap.{State, CutDone, refused, free_frames, going_with, cut_state, cleared_call}
-use Rattle.vmar_unmap.specs.declared.CutResult.{CutResult}
-use Rattle.vmar_unmap.specs.declared.CutResult.TheVariants as result
 use Rattle.vmar_unmap.proofs.Calls.{clear_frames, clear_cut, clear_unissued, clear_gone, clear_live}
 use Rattle.vmar_unmap_laws.specs.Ready.{Ready, Same}
 use Rattle.vmar_unmap_laws.specs.Clears.{ClearAnswers, unissued, dead, frames, done, ClearDone, ClearsAll}
@@ -30,9 +29,9 @@ use Rattle.vmar_unmap_laws.proofs.Clear.{clear_own, clear_done}
 
 -- how a call ends: refused, or all cut
 data Ends (base : ℕ) (st : State) (id : ℕ) (itself : Bool) : CutDone → Type 0 where
-  refusal : (why : Refusal) → ClearAnswers st id (result.Refused why) → Ends base st id itself (refused st why)
-  accepts : (t : State) → ClearAnswers st id result.Done → ClearDone base st t (slot_of st.space id) itself
-      → (itself ≡ false → Same st.space t.space id) → ((region_at st.space (slot_of st.space id)).id ≡ id) → Ends base st id itself (record { result = result.Done; state = t })
+  refusal : (why : Refusal) → ClearAnswers st id (Err why) → Ends base st id itself (refused st why)
+  accepts : (t : State) → ClearAnswers st id (Ok tt) → ClearDone base st t (slot_of st.space id) itself
+      → (itself ≡ false → Same st.space t.space id) → ((region_at st.space (slot_of st.space id)).id ≡ id) → Ends base st id itself (record { result = (Ok tt); state = t })
 
 module _ (base : ℕ) (st : State) (R : Ready base st) (id : ℕ) (itself : Bool) where
   abbrev r : ℕ
@@ -62,11 +61,11 @@ module _ (base : ℕ) (st : State) (R : Ready base st) (id : ℕ) (itself : Bool
       (λ (i : ltb id st.space.nextid ≡ false). subst (Ends base st id itself) (clear_unissued base st id itself i) (refusal BadHandle (unissued (ltb-false _ _ i))))
       (tell (ltb id st.space.nextid))
 
-  nothing_changes : {out : CutDone} → Ends base st id itself out → (why : Refusal) → out.result ≡ result.Refused why → out.state ≡ st
+  nothing_changes : {out : CutDone} → Ends base st id itself out → (why : Refusal) → out.result ≡ Err why → out.state ≡ st
   nothing_changes (refusal w x) why e = refl
   nothing_changes (accepts t x d o k) why e = done_refused e
 
-  does : {out : CutDone} → Ends base st id itself out → out.result ≡ result.Done → ClearDone base st out.state r itself
+  does : {out : CutDone} → Ends base st id itself out → out.result ≡ Ok tt → ClearDone base st out.state r itself
   does (refusal w x) e = done_refused (sym e)
   does (accepts t x d o k) e = d
 
@@ -74,7 +73,7 @@ module _ (base : ℕ) (st : State) (R : Ready base st) (id : ℕ) (itself : Bool
   later (refusal w x) = later_none st.space
   later (accepts t x d o k) = d.space.later
 
-  gone : {out : CutDone} → Ends base st id itself out → itself ≡ true → out.result ≡ result.Done → (u : Space) → Later out.state.space u → slot_of u id ≡ 32
+  gone : {out : CutDone} → Ends base st id itself out → itself ≡ true → out.result ≡ Ok tt → (u : Space) → Later out.state.space u → slot_of u id ≡ 32
   gone (refusal w x) y e u n = done_refused (sym e)
   gone (accepts t x d o k) y e u n = subst (λ (j : ℕ). slot_of u j ≡ 32) k (d.regions.dead r (inr (y, refl)) u n)
 
@@ -86,7 +85,7 @@ module _ (base : ℕ) (st : State) (R : Ready base st) (id : ℕ) (itself : Bool
   answers (refusal w x) = x
   answers (accepts t x d o k) = x
 
-  only : (x : CutResult) → ClearAnswers st id x → x ≡ (cleared_call base st id itself).result
+  only : (x : Result (Unit {0}) Refusal) → ClearAnswers st id x → x ≡ (cleared_call base st id itself).result
   only x (unissued h) = ap (λ (d : CutDone). d.result) (clear_unissued base st id itself (le-ltb _ _ h))
   only x (dead h z) = ap (λ (d : CutDone). d.result) (clear_gone base st id itself (lt-ltb _ _ h) r refl z)
   only x (frames h l n) =
@@ -97,7 +96,7 @@ module _ (base : ℕ) (st : State) (R : Ready base st) (id : ℕ) (itself : Bool
       (clear_cut base st r itself (none_dead R.passes) (le-leb _ _ n) ∙ clear_live base st id itself (lt-ltb _ _ h) r refl (λ z. omega arith))
 
   -- no answer is 14
-  alive : {x : CutResult} → ClearAnswers st id x → x ≡ result.Refused ChildDead → ⊥
+  alive : {x : (Result (Unit {0}) Refusal)} → ClearAnswers st id x → x ≡ Err ChildDead → ⊥
   alive (unissued h) q = let z : ◌≡◌ {A = ℕ} 0 1 = cc in omega arith
   alive (dead h z) q = let z : ◌≡◌ {A = ℕ} 0 1 = cc in omega arith
   alive (frames h l n) q = let z : ◌≡◌ {A = ℕ} 0 1 = cc in omega arith

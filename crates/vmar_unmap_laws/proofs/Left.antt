@@ -1,4 +1,5 @@
 -- What every cut leaves, from the laws of its parts.
+use Rattle.std.specs.Prelude.{Result, Ok, Err}
 use Prim.Native.Nat.{ℕ, ◌+◌, ◌-◌, ◌*◌, ◌/◌, ◌≤◌, ◌<◌}
 use mathlib.Core.Path.{◌≡◌, sym, ◌∙◌, ap, subst}
 use mathlib.Core.Bool.{Bool, true, false, not}
@@ -29,8 +30,6 @@ use Rattle.vmar_prune_laws.specs.Order.{InOrder}
 use Rattle.vmar_prune_laws.specs.Cut.{Cut, SameAt}
 use Rattle.refusal.specs.declared.Refusal.{Refusal}
 use Rattle.vmar_unmap.specs.Unmap.{State, tables_of, free_frames}
-use Rattle.vmar_unmap.specs.declared.CutResult.{CutResult}
-use Rattle.vmar_unmap.specs.declared.CutResult.TheVariants as result
 use Rattle.vmar_unmap_laws.specs.Ready.{Frames, RegionsLeft, Same}
 use Rattle.vmar_unmap_laws.proofs.One.{one_holds}
 
@@ -53,7 +52,7 @@ frames_of base st t cs c l = record {
   long = c.long;
 }
 
-pub done_refused : {A : Type 0} {why : Refusal} → ◌≡◌ {A = CutResult} result.Done (result.Refused why) → A
+pub done_refused : {A : Type 0} {why : Refusal} → ◌≡◌ {A = Result (Unit {0}) Refusal} (Ok tt) (Err why) → A
 done_refused e = let z : ◌≡◌ {A = ℕ} 0 1 = cc in absurd (omega arith)
 
 -- one that is as it was is found where it was

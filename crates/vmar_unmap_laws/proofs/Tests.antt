@@ -18,6 +18,7 @@ use Rattle.space.specs.declared.Space.{Space}
 use Rattle.space.proofs.Facts.{region_place_lem}
 use Rattle.space.proofs.Ranges.{inner, inner_of}
 use Rattle.vmar_offset.specs.Offset.{is_free_mapping, free_mapping, child_meets}
+use Rattle.vmar_offset.specs.Offset as offset
 use Rattle.vmar_cuts.proofs.Parts.{overlaps, overlap_of}
 use Rattle.vmar_prune.specs.Prune.{split_at, split_slot}
 use Rattle.vmar_prune_laws.proofs.Pieces.{before_most, before_least, after_most, after_least, split_is, split_of}
@@ -64,7 +65,7 @@ unfolding is_partly
 partly_from g r b e m i = rw (m, i)
 
 meets_parts : (g : Region) (r b n : ℕ) → child_meets g r b n ≡ true → (g.live ≡ true) × (g.parent ≡ r) × (overlap g.addr g.size b n ≡ true)
-unfolding child_meets
+unfolding offset.meets
 meets_parts g r b n t =
     ⊎_elim
     (λ (l : g.live ≡ true). ⊎_elim
@@ -75,7 +76,7 @@ meets_parts g r b n t =
     (tell g.live)
 
 meets_from : (g : Region) (r b n : ℕ) → g.live ≡ true → g.parent ≡ r → overlap g.addr g.size b n ≡ true → child_meets g r b n ≡ true
-unfolding child_meets
+unfolding offset.meets
 meets_from g r b n l q o = rw (l, eq-eqb g.parent r q, o)
 
 module _ (s : Space) (r b e : ℕ) (h : b ≤ e) where

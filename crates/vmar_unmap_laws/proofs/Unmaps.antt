@@ -1,4 +1,5 @@
 -- The laws of unmap.
+use Rattle.std.specs.Prelude.{Result, Ok, Err}
 use Prim.Native.Nat.{ℕ, ◌+◌, ◌*◌, ◌≤◌, ◌<◌}
 use mathlib.Core.Path.{◌≡◌, refl, sym, ◌∙◌, ap, subst}
 use mathlib.Core.Bool.{true, false}
@@ -21,8 +22,6 @@ use Rattle.vmar_laws.proofs.Later.{later_none}
 use Rattle.vmar_doom.specs.Doomed.{marked}
 use Rattle.vmar_cuts.specs.Cuts.{unmap_cuts, PageRange}
 use Rattle.vmar_unmap.specs.Unmap.{State, CutDone, refused, free_frames, partly_at, lacks_slot, cut_state, cut_range, in_region, unmapped}
-use Rattle.vmar_unmap.specs.declared.CutResult.{CutResult}
-use Rattle.vmar_unmap.specs.declared.CutResult.TheVariants as result
 use Rattle.vmar_unmap.proofs.Calls.{whole_pages, has_slot, range_partly, range_short, range_frames, range_cut, in_dead, in_over, in_range, unmap_unissued, unmap_odd, unmap_odd_length, unmap_nothing, unmap_some}
 use Rattle.vmar_unmap_laws.specs.Ready.{Ready, Same}
 use Rattle.vmar_unmap_laws.specs.Unmaps.{WholePages, Asked, Takes, UnmapAnswers, unissued, odd, dead, over, partly, short, frames, done, UnmapDone, UnmapsAll}
@@ -32,9 +31,9 @@ use Rattle.vmar_unmap_laws.proofs.Unmap.{unmap_own, unmap_done}
 
 -- how a call ends: refused, or the range cut out
 data Ends (base : ℕ) (st : State) (id addr len : ℕ) : CutDone → Type 0 where
-  refusal : (why : Refusal) → UnmapAnswers st id addr len (result.Refused why) → Ends base st id addr len (refused st why)
-  accepts : (t : State) → UnmapAnswers st id addr len result.Done → UnmapDone base st t (slot_of st.space id) addr (addr + len) → Same st.space t.space id
-      → Ends base st id addr len (record { result = result.Done; state = t })
+  refusal : (why : Refusal) → UnmapAnswers st id addr len (Err why) → Ends base st id addr len (refused st why)
+  accepts : (t : State) → UnmapAnswers st id addr len (Ok tt) → UnmapDone base st t (slot_of st.space id) addr (addr + len) → Same st.space t.space id
+      → Ends base st id addr len (record { result = (Ok tt); state = t })
 
 module _ (base : ℕ) (st : State) (R : Ready base st) (id addr len : ℕ) where
   abbrev s : Space
@@ -128,11 +127,11 @@ module _ (base : ℕ) (st : State) (R : Ready base st) (id addr len : ℕ) where
       (λ (i : ltb id s.nextid ≡ false). subst E (unmap_unissued base st id addr len i) (refusal BadHandle (unissued (ltb-false _ _ i))))
       (tell (ltb id s.nextid))
 
-  nothing_changes : {out : CutDone} → E out → (why : Refusal) → out.result ≡ result.Refused why → out.state ≡ st
+  nothing_changes : {out : CutDone} → E out → (why : Refusal) → out.result ≡ Err why → out.state ≡ st
   nothing_changes (refusal w x) why q = refl
   nothing_changes (accepts t x d o) why q = done_refused q
 
-  does : {out : CutDone} → E out → out.result ≡ result.Done → UnmapDone base st out.state r addr e
+  does : {out : CutDone} → E out → out.result ≡ Ok tt → UnmapDone base st out.state r addr e
   does (refusal w x) q = done_refused (sym q)
   does (accepts t x d o) q = d
 
@@ -149,13 +148,13 @@ module _ (base : ℕ) (st : State) (R : Ready base st) (id addr len : ℕ) where
   answers (accepts t x d o) = x
 
   -- no second answer fits
-  abbrev Is : CutResult → Type 0
+  abbrev Is : Result (Unit {0}) Refusal → Type 0
   Is x = x ≡ (unmapped base st id addr len).result
 
   is : {out : CutDone} → out ≡ unmapped base st id addr len → Is out.result
   is q = ap (λ (d : CutDone). d.result) q
 
-  is_odd : id < s.nextid → (WholePages addr len → ⊥) → Is (result.Refused InvalidArgs)
+  is_odd : id < s.nextid → (WholePages addr len → ⊥) → Is (Err InvalidArgs)
   is_odd h n =
       let i = lt-ltb _ _ h in
       ⊎_elim
@@ -172,7 +171,7 @@ module _ (base : ℕ) (st : State) (R : Ready base st) (id addr len : ℕ) where
   paged : id < s.nextid → WholePages addr len → in_region base st id addr len ≡ unmapped base st id addr len
   paged h w = let z = w.2 in unmap_some base st id addr len (lt-ltb _ _ h) (eq-eqb _ _ w.0) (eq-eqb _ _ w.1) (λ q. omega arith)
 
-  only : (x : CutResult) → UnmapAnswers st id addr len x → Is x
+  only : (x : Result (Unit {0}) Refusal) → UnmapAnswers st id addr len x → Is x
   only x (unissued h) = is (unmap_unissued base st id addr len (le-ltb _ _ h))
   only x (odd h n) = is_odd h n
   only x (dead h w z) = is (in_dead base st id addr len r refl z ∙ paged h w)
@@ -188,7 +187,7 @@ module _ (base : ℕ) (st : State) (R : Ready base st) (id addr len : ℕ) where
       (le-leb _ _ n) ∙ to_range A)
 
   -- no answer is 14
-  alive : {x : CutResult} → UnmapAnswers st id addr len x → x ≡ result.Refused ChildDead → ⊥
+  alive : {x : (Result (Unit {0}) Refusal)} → UnmapAnswers st id addr len x → x ≡ Err ChildDead → ⊥
   alive (unissued h) q = let z : ◌≡◌ {A = ℕ} 0 1 = cc in omega arith
   alive (odd h n) q = let z : ◌≡◌ {A = ℕ} 0 1 = cc in omega arith
   alive (dead h w z) q = let z : ◌≡◌ {A = ℕ} 0 1 = cc in omega arith

@@ -1,6 +1,7 @@
 -- What `clear` and `destroy` on a space and a pool that pass their checks mean. Document 01: "A refusal gives value 0 and changes nothing anywhere"; "Region ids .. never come
 -- back within a space", "An id once issued whose region is gone is 5"; "Slots of destroyed regions and dropped mappings are used again"; "four free frames for each non-empty
 -- mapping it will cut or drop, those in destroyed children included; otherwise 8".
+use Rattle.std.specs.Prelude.{Result, Ok, Err}
 use Rattle.std.specs.Prelude.{ℕ, ◌-◌, ◌*◌, ◌≤◌, ◌<◌, ◌≡◌, Bool, true, false, ◌⊎◌}
 use Rattle.refusal.specs.declared.Refusal.{Refusal}
 use Rattle.refusal.specs.declared.Refusal.TheVariants.{BadState, NoFrames, BadHandle, ChildDead}
@@ -15,8 +16,6 @@ use Rattle.vmar_cuts.specs.Laws.{Lies, DestroyLeaves}
 use Rattle.vmar_prune_laws.specs.Cut as prune
 use Rattle.vmar_prune_laws.specs.Calls.{Under, Cleared, Destroyed}
 use Rattle.vmar_unmap.specs.Unmap.{State, tables_of, free_frames, going_with, cleared_call}
-use Rattle.vmar_unmap.specs.declared.CutResult.{CutResult}
-use Rattle.vmar_unmap.specs.declared.CutResult.TheVariants as result
 use Rattle.vmar_unmap_laws.specs.Ready.{Ready, Frames, KeptAt, GoneAt, RegionsLeft, Same}
 
 -- the regions whose mappings are dropped: r and all below it
@@ -28,13 +27,13 @@ abbrev pub Goes : Space → ℕ → Bool → ℕ → Type 0
 Goes s r itself i = Under s r i ⊎ ((itself ≡ true) × (i ≡ r))
 
 -- what the call answers: 11, 5, 8 or success, in this order. It is never 14.
-pub data ClearAnswers (st : State) (id : ℕ) : CutResult → Type 0 where
-  unissued : st.space.nextid ≤ id → ClearAnswers st id (result.Refused BadHandle)
-  dead : id < st.space.nextid → slot_of st.space id ≡ 32 → ClearAnswers st id (result.Refused BadState)
+pub data ClearAnswers (st : State) (id : ℕ) : Result (Unit {0}) Refusal → Type 0 where
+  unissued : st.space.nextid ≤ id → ClearAnswers st id (Err BadHandle)
+  dead : id < st.space.nextid → slot_of st.space id ≡ 32 → ClearAnswers st id (Err BadState)
   -- 8 exactly when fewer are free than four for each non-empty mapping
   frames : id < st.space.nextid → slot_of st.space id < 32 → free_frames st < 4 * non_empty (destroy_cuts st.space (slot_of st.space id))
-      → ClearAnswers st id (result.Refused NoFrames)
-  done : id < st.space.nextid → slot_of st.space id < 32 → 4 * non_empty (destroy_cuts st.space (slot_of st.space id)) ≤ free_frames st → ClearAnswers st id result.Done
+      → ClearAnswers st id (Err NoFrames)
+  done : id < st.space.nextid → slot_of st.space id < 32 → 4 * non_empty (destroy_cuts st.space (slot_of st.space id)) ≤ free_frames st → ClearAnswers st id (Ok tt)
 
 -- st has become t: the region in slot r was emptied, or destroyed
 pub record ClearDone (base : ℕ) (st t : State) (r : ℕ) (itself : Bool) : Type 0 where
@@ -65,18 +64,18 @@ pub record ClearDone (base : ℕ) (st t : State) (r : ℕ) (itself : Bool) : Typ
 -- What is proved of every call on a space and a pool that pass their checks: `ClearsAll`, below.
 pub record Clears (base : ℕ) (st : State) (id : ℕ) (itself : Bool) : Type 0 where
   -- "A refusal .. changes nothing anywhere"
-  pub refused : (why : Refusal) → (cleared_call base st id itself).result ≡ result.Refused why → (cleared_call base st id itself).state ≡ st
-  pub accepted : (cleared_call base st id itself).result ≡ result.Done → ClearDone base st (cleared_call base st id itself).state (slot_of st.space id) itself
+  pub refused : (why : Refusal) → (cleared_call base st id itself).result ≡ Err why → (cleared_call base st id itself).state ≡ st
+  pub accepted : (cleared_call base st id itself).result ≡ Ok tt → ClearDone base st (cleared_call base st id itself).state (slot_of st.space id) itself
   -- ids "never come back", refused or not
   pub later : Later st.space (cleared_call base st id itself).state.space
   -- a region that was destroyed is 5 for ever; one that was cleared has its id and is as it was
-  pub gone : itself ≡ true → (cleared_call base st id itself).result ≡ result.Done → (u : Space) → Later (cleared_call base st id itself).state.space u → slot_of u id ≡ 32
+  pub gone : itself ≡ true → (cleared_call base st id itself).result ≡ Ok tt → (u : Space) → Later (cleared_call base st id itself).state.space u → slot_of u id ≡ 32
   pub stays : itself ≡ false → Same st.space (cleared_call base st id itself).state.space id
   -- what the call answers, and no second answer fits
   pub answers : ClearAnswers st id (cleared_call base st id itself).result
-  pub only : (x : CutResult) → ClearAnswers st id x → x ≡ (cleared_call base st id itself).result
+  pub only : (x : Result (Unit {0}) Refusal) → ClearAnswers st id x → x ≡ (cleared_call base st id itself).result
   -- never 14: every listed child is alive
-  pub alive : (cleared_call base st id itself).result ≡ result.Refused ChildDead → ⊥
+  pub alive : (cleared_call base st id itself).result ≡ Err ChildDead → ⊥
 
 pub record ClearsAll : Type 0 where
   pub holds : (base : ℕ) (st : State) → Ready base st → (id : ℕ) (itself : Bool) → Clears base st id itself

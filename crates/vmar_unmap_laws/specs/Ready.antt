@@ -1,11 +1,11 @@
 -- What the calls that cut have in common. Document 01: "A space passes its check when .."; "An unmap, overwrite, clear or destroy requires four free frames for each
 -- non-empty mapping it will cut or drop, those in destroyed children included"; "Region ids .. never come back within a space", "An id once issued whose region is gone is
 -- 5"; "Lists keep the Rust's order". The four frames a mapping always suffice, so that no accepted call runs short half-way.
+use Rattle.std.specs.Prelude.{Err}
 use Rattle.std.specs.Prelude.{ℕ, ◌+◌, ◌*◌, ◌/◌, ◌≤◌, ◌<◌, ◌≡◌, false, List, length}
 use Rattle.refusal.specs.declared.Refusal.TheVariants.{NotMapped}
 use Rattle.form.specs.Form.{Good}
 use Rattle.table.specs.Table.{queried}
-use Rattle.table.specs.declared.QueryResult.TheVariants as query
 use Rattle.table_unmap_cont.specs.Demand.{answered}
 use Rattle.table_cuts.specs.Cuts.{Cut, non_empty}
 use Rattle.table_cuts.specs.Laws.{Carried}
@@ -49,7 +49,7 @@ pub record KeptAt (base : ℕ) (st t : State) (i x : ℕ) : Type 0 where
 
 -- the address x has neither frame nor mapping
 pub record GoneAt (base : ℕ) (t : State) (x : ℕ) : Type 0 where
-  pub frame : queried t.pool (base / 4096) x ≡ query.Refused NotMapped
+  pub frame : queried t.pool (base / 4096) x ≡ Err NotMapped
   pub mapping : (j : ℕ) → Lies t.space j x → ⊥
 
 -- s has become t, and Goes tells which regions went

@@ -1,6 +1,7 @@
 -- What `unmap` on a space and a pool that pass their checks means. Document 01: "A refusal gives value 0 and changes nothing anywhere"; of order, "11, .. then the Rust's own
 -- order, then 10, then 8"; "An unmap, overwrite, clear or destroy requires four free frames for each non-empty mapping it will cut or drop, those in destroyed children
 -- included; otherwise 8. A split needs a slot free before the call"; "any accepted unmap drops all empty mappings of its region".
+use Rattle.std.specs.Prelude.{Result, Ok, Err}
 use Rattle.std.specs.Prelude.{ℕ, ◌+◌, ◌*◌, ◌%◌, ◌^◌, ◌≤◌, ◌<◌, ◌≡◌, true, ◌⊎◌}
 use Rattle.refusal.specs.declared.Refusal.{Refusal}
 use Rattle.refusal.specs.declared.Refusal.TheVariants.{InvalidArgs, BadState, NoFrames, NoSlot, BadHandle, ChildDead}
@@ -14,8 +15,6 @@ use Rattle.vmar_cuts.specs.Cuts.{unmap_cuts}
 use Rattle.vmar_cuts.specs.Laws.{Lies, UnmapLeaves}
 use Rattle.vmar_prune_laws.specs.Cut as prune
 use Rattle.vmar_unmap.specs.Unmap.{State, tables_of, free_frames, unmapped}
-use Rattle.vmar_unmap.specs.declared.CutResult.{CutResult}
-use Rattle.vmar_unmap.specs.declared.CutResult.TheVariants as result
 use Rattle.vmar_unmap_laws.specs.Ready.{Ready, Frames, KeptAt, GoneAt, RegionsLeft, Same}
 
 -- whole pages, and not none
@@ -57,19 +56,19 @@ pub record Takes (s : Space) (r b e : ℕ) : Type 0 where
   pub slots : (i : ℕ) → Short s r b e i → ⊥
 
 -- what the call answers: 11, 1, 5, 1, 1, 10, 8 or success, in this order. It is never 14.
-pub data UnmapAnswers (st : State) (id addr len : ℕ) : CutResult → Type 0 where
-  unissued : st.space.nextid ≤ id → UnmapAnswers st id addr len (result.Refused BadHandle)
-  odd : id < st.space.nextid → (WholePages addr len → ⊥) → UnmapAnswers st id addr len (result.Refused InvalidArgs)
-  dead : id < st.space.nextid → WholePages addr len → slot_of st.space id ≡ 32 → UnmapAnswers st id addr len (result.Refused BadState)
-  over : id < st.space.nextid → WholePages addr len → slot_of st.space id < 32 → 2 ^ 64 ≤ addr + len → UnmapAnswers st id addr len (result.Refused InvalidArgs)
-  partly : Asked st.space id addr len → (i : ℕ) → Partly st.space (slot_of st.space id) addr (addr + len) i → UnmapAnswers st id addr len (result.Refused InvalidArgs)
+pub data UnmapAnswers (st : State) (id addr len : ℕ) : Result (Unit {0}) Refusal → Type 0 where
+  unissued : st.space.nextid ≤ id → UnmapAnswers st id addr len (Err BadHandle)
+  odd : id < st.space.nextid → (WholePages addr len → ⊥) → UnmapAnswers st id addr len (Err InvalidArgs)
+  dead : id < st.space.nextid → WholePages addr len → slot_of st.space id ≡ 32 → UnmapAnswers st id addr len (Err BadState)
+  over : id < st.space.nextid → WholePages addr len → slot_of st.space id < 32 → 2 ^ 64 ≤ addr + len → UnmapAnswers st id addr len (Err InvalidArgs)
+  partly : Asked st.space id addr len → (i : ℕ) → Partly st.space (slot_of st.space id) addr (addr + len) i → UnmapAnswers st id addr len (Err InvalidArgs)
   short : Asked st.space id addr len → ((i : ℕ) → Partly st.space (slot_of st.space id) addr (addr + len) i → ⊥)
-      → (i : ℕ) → Short st.space (slot_of st.space id) addr (addr + len) i → UnmapAnswers st id addr len (result.Refused NoSlot)
+      → (i : ℕ) → Short st.space (slot_of st.space id) addr (addr + len) i → UnmapAnswers st id addr len (Err NoSlot)
   -- 8 exactly when fewer are free than four for each non-empty mapping
   frames : Asked st.space id addr len → Takes st.space (slot_of st.space id) addr (addr + len)
-      → free_frames st < 4 * non_empty (unmap_cuts st.space (slot_of st.space id) addr (addr + len)) → UnmapAnswers st id addr len (result.Refused NoFrames)
+      → free_frames st < 4 * non_empty (unmap_cuts st.space (slot_of st.space id) addr (addr + len)) → UnmapAnswers st id addr len (Err NoFrames)
   done : Asked st.space id addr len → Takes st.space (slot_of st.space id) addr (addr + len)
-      → 4 * non_empty (unmap_cuts st.space (slot_of st.space id) addr (addr + len)) ≤ free_frames st → UnmapAnswers st id addr len result.Done
+      → 4 * non_empty (unmap_cuts st.space (slot_of st.space id) addr (addr + len)) ≤ free_frames st → UnmapAnswers st id addr len (Ok tt)
 
 -- st has become t: [b, e) was cut out of the region in slot r, and the children within it are gone with all below them
 pub record UnmapDone (base : ℕ) (st t : State) (r b e : ℕ) : Type 0 where
@@ -93,8 +92,8 @@ pub record UnmapDone (base : ℕ) (st t : State) (r b e : ℕ) : Type 0 where
 -- What is proved of every call on a space and a pool that pass their checks: `UnmapsAll`, below.
 pub record Unmaps (base : ℕ) (st : State) (id addr len : ℕ) : Type 0 where
   -- "A refusal .. changes nothing anywhere"
-  pub refused : (why : Refusal) → (unmapped base st id addr len).result ≡ result.Refused why → (unmapped base st id addr len).state ≡ st
-  pub accepted : (unmapped base st id addr len).result ≡ result.Done
+  pub refused : (why : Refusal) → (unmapped base st id addr len).result ≡ Err why → (unmapped base st id addr len).state ≡ st
+  pub accepted : (unmapped base st id addr len).result ≡ Ok tt
       → UnmapDone base st (unmapped base st id addr len).state (slot_of st.space id) addr (addr + len)
   -- ids "never come back", refused or not
   pub later : Later st.space (unmapped base st id addr len).state.space
@@ -102,9 +101,9 @@ pub record Unmaps (base : ℕ) (st : State) (id addr len : ℕ) : Type 0 where
   pub stays : Same st.space (unmapped base st id addr len).state.space id
   -- what the call answers, and no second answer fits
   pub answers : UnmapAnswers st id addr len (unmapped base st id addr len).result
-  pub only : (x : CutResult) → UnmapAnswers st id addr len x → x ≡ (unmapped base st id addr len).result
+  pub only : (x : Result (Unit {0}) Refusal) → UnmapAnswers st id addr len x → x ≡ (unmapped base st id addr len).result
   -- never 14: every listed child is alive
-  pub alive : (unmapped base st id addr len).result ≡ result.Refused ChildDead → ⊥
+  pub alive : (unmapped base st id addr len).result ≡ Err ChildDead → ⊥
 
 pub record UnmapsAll : Type 0 where
   pub holds : (base : ℕ) (st : State) → Ready base st → (id addr len : ℕ) → Unmaps base st id addr len

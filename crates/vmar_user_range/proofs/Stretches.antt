@@ -1,7 +1,8 @@
 -- A stretch of pages in one mapping: what each of them allows stands in the mapping's flags.
+use Rattle.std.specs.Prelude.{Some, None, Result, Ok, Err}
 use Prim.Native.Nat.{ℕ, ◌+◌, ◌-◌, ◌*◌, ◌/◌, ◌%◌, ◌≤◌, ◌<◌}
 use mathlib.Core.Path.{◌≡◌, refl, sym, ◌∙◌, ap, subst}
-use mathlib.Core.Bool.{Bool, true, false}
+use mathlib.Core.Bool.{true, false}
 use mathlib.Core.List.{List}
 use mathlib.Core.Logic.{⊎_elim}
 use native.Mathlib.Omega.{arith}
@@ -11,9 +12,12 @@ use lib.ListN.{get_or}
 use borrow.Author.Tests.{lt-ltb, le-ltb, eq-eqb, eqb-true}
 use Rattle.paging.proofs.Cases.{below?, no_truth, clash}
 use Rattle.common.specs.Flags.{has, USER, HUGE_PAGE, grants}
+use Rattle.refusal.specs.declared.Refusal.{Refusal}
 use Rattle.refusal.specs.declared.Refusal.TheVariants.{AccessDenied, NotFound}
 use Rattle.scan.proofs.Gather.{xor_same, xor_of}
-use Rattle.scan.proofs.Scans.{tell, before_first}
+use Rattle.scan.proofs.Scans.{tell, first_passes, before_first}
+use Rattle.scan.proofs.Found.{below_some, found_none}
+use Rattle.scan.specs.Scan.{below}
 use Rattle.space.specs.Range.{contains}
 use Rattle.space.specs.Space.{region_at, mapping_at, is_region}
 use Rattle.space.specs.Passes.{Passes, others, page_at}
@@ -22,28 +26,14 @@ use Rattle.space.specs.declared.Space.{Space}
 use Rattle.space.proofs.Ranges as ranges
 use Rattle.vmar_lookup.specs.Lookup.{look, page_flags}
 use Rattle.vmar_lookup.specs.Laws.{Holds, Lookups}
-use Rattle.vmar_lookup.specs.declared.Found.{Found}
-use Rattle.vmar_lookup.specs.declared.Found.TheVariants as found
 use Rattle.vmar_lookup.proofs.Laws.{lookups}
-use Rattle.scan.specs.Scan.{first}
-use Rattle.vmar_user_range.specs.UserRange.{allows, judged, start_of, verdict, checked_to, is_held, AllGrant, PageOf, pages_in, Tested, no_user, denied, granted}
-use Rattle.vmar_user_range.specs.declared.UserRangeResult.{UserRangeResult}
-use Rattle.vmar_user_range.specs.declared.UserRangeResult.TheVariants.{Refused}
-use Rattle.vmar_user_range.specs.declared.Stretch.{Stretch}
-use Rattle.vmar_user_range.specs.declared.Stretch.TheVariants as stretch
+use Rattle.vmar_user_range.specs.UserRange.{allows, judged, start_of, verdict, checked_to, is_held, held_at, holder_of, AllGrant, PageOf, pages_in, Tested, no_user, denied, granted}
 use Rattle.vmar_user_range.proofs.Runs.{on_to, stops_at, stops_here}
 
--- the slot of the mapping that holds x, 64 where none does
-abbrev pub held_at : Space → ℕ → ℕ → Bool
-held_at s x i = is_held (mapping_at s i) x
-
-abbrev pub holder_of : Space → ℕ → ℕ
-holder_of s x = first (held_at s x) 0 64
-
 -- a stretch of pages says of all from `page` to the last: so many are allowed and the others remain, or it is refused
-abbrev pub Stretched : (ℕ → UserRangeResult) → ℕ → ℕ → Stretch → Type 0
-Stretched v page last (stretch.Allowed n) = (0 < n) × (page + n ≤ last + 1) × (checked_to v page last ≡ checked_to v (page + n) last)
-Stretched v page last (stretch.Refused why) = checked_to v page last ≡ Refused why
+abbrev pub Stretched : (ℕ → Result (Unit {0}) Refusal) → ℕ → ℕ → Result ℕ Refusal → Type 0
+Stretched v page last (Ok n) = (0 < n) × (page + n ≤ last + 1) × (checked_to v page last ≡ checked_to v (page + n) last)
+Stretched v page last (Err why) = checked_to v page last ≡ Err why
 
 -- where a page is looked up
 pub at_addr : (addr page : ℕ) → page * 4096 < addr → start_of addr page ≡ addr
@@ -108,8 +98,14 @@ none_holds s x m e h =
     clash (held_at s x m) (held_of (mapping_at s m) x h.live h.holds) (before_first (held_at s x) 64 m (omega (arith, e, l)))
 
 -- by what the code has found: x is where the page is looked up
-pub held_there : (s : Space) (x y m : ℕ) → x ≡ y → m < 64 → is_held (mapping_at s m) x ≡ true → Holds s y m
-held_there s x y m e l c = let h = held_is (mapping_at s m) x c in subst (λ (z : ℕ). Holds s z m) e (record { slot = l; live = h.0; holds = h.1 })
+pub no_holder : (s : Space) (x y : ℕ) → x ≡ y → below 64 (holder_of s x) ≡ None → holder_of s y ≡ 64
+no_holder s x y e n = subst (λ (z : ℕ). holder_of s z ≡ 64) e (found_none (held_at s x) 64 (below 64 (holder_of s x)) refl n)
+
+pub holder : (s : Space) (x y m : ℕ) → x ≡ y → below 64 (holder_of s x) ≡ Some m → Holds s y m
+holder s x y m e q =
+    let f = below_some 64 (holder_of s x) m q in
+    let h = held_is (mapping_at s m) x (subst (λ (i : ℕ). held_at s x i ≡ true) f.0 (first_passes (held_at s x) 64 (omega (arith, f.0, f.1)))) in
+    subst (λ (z : ℕ). Holds s z m) e (record { slot = f.1; live = h.0; holds = h.1 })
 
 -- the pages that are counted lie in the mapping
 pub counted : (m : Mapping) (page last : ℕ) → PageOf m page → page ≤ last
@@ -124,39 +120,39 @@ counted m page last o to =
 
 -- what the code has found of n pages, which are k
 module _ (f : List ℕ) (at n k access : ℕ) (e : n ≡ k) (user : grants (get_or f at 0) USER ≡ true) where
-  pub some_lack : (AllGrant f at n access → ⊥) → Tested f at k access (stretch.Refused AccessDenied)
+  pub some_lack : (AllGrant f at n access → ⊥) → Tested f at k access (Err AccessDenied)
   some_lack some = denied user (subst (λ (j : ℕ). AllGrant f at j access → ⊥) e some) refl
 
-  pub all_grant : AllGrant f at n access → Tested f at k access (stretch.Allowed n)
-  all_grant all = granted user (subst (λ (j : ℕ). AllGrant f at j access) e all) (ap stretch.Allowed e)
+  pub all_grant : AllGrant f at n access → Tested f at k access (Ok n)
+  all_grant all = granted user (subst (λ (j : ℕ). AllGrant f at j access) e all) (ap (λ (x : ℕ). Ok x) e)
 
 module _ (s : Space) (f : List ℕ) (p : Passes s f) (r : ℕ) (l : r < 32) (a : is_region s r ≡ true) (addr access : ℕ) where
   laws : Lookups s f
   laws = lookups.holds s f p
 
   -- a lookup that ends at no mapping gives 4
-  missed : (page : ℕ) → ((m : ℕ) → look s (start_of addr page) 32 r ≡ found.Mapping m → ⊥) → verdict s f r addr access page ≡ Refused NotFound
+  missed : (page : ℕ) → ((m : ℕ) → look s (start_of addr page) 32 r ≡ Ok m → ⊥) → verdict s f r addr access page ≡ Err NotFound
   unfolding verdict
   missed page none = by (look s (start_of addr page) 32 r) refl
     where
-      by : (x : Found) → look s (start_of addr page) 32 r ≡ x → judged access (page_flags s f (start_of addr page) x) ≡ Refused NotFound
-      by (found.Mapping m) e = absurd (none m e)
-      by (found.Refused why) e = refl
+      by : (x : Result ℕ Refusal) → look s (start_of addr page) 32 r ≡ x → judged access (page_flags s f (start_of addr page) x) ≡ Err NotFound
+      by (Ok m) e = absurd (none m e)
+      by (Err why) e = refl
 
-  pub outside_region : (page : ℕ) → contains (region_at s r).addr (region_at s r).size (start_of addr page) ≡ false → verdict s f r addr access page ≡ Refused NotFound
+  pub outside_region : (page : ℕ) → contains (region_at s r).addr (region_at s r).size (start_of addr page) ≡ false → verdict s f r addr access page ≡ Err NotFound
   outside_region page c = missed page (λ m e.
       let h = ranges.holds _ _ _ (laws.found_holds (start_of addr page) r m l a e).holds in
       let i = laws.found_inside (start_of addr page) r m l a e in
       clash _ (ranges.holds_of _ _ _ (omega (arith, h.0, i.0)) (omega (arith, h.1, i.1))) c)
 
-  pub unheld : (page : ℕ) → holder_of s (start_of addr page) ≡ 64 → verdict s f r addr access page ≡ Refused NotFound
+  pub unheld : (page : ℕ) → holder_of s (start_of addr page) ≡ 64 → verdict s f r addr access page ≡ Err NotFound
   unheld page c = missed page (λ m e. none_holds s (start_of addr page) m c (laws.found_holds (start_of addr page) r m l a e))
 
   -- the lookup at an address of the region that a mapping holds gives the flags of its page there
   looked_up : (page m : ℕ) → contains (region_at s r).addr (region_at s r).size (start_of addr page) ≡ true → Holds s (start_of addr page) m
       → verdict s f r addr access page ≡ allows access (page_at f m ((start_of addr page - (mapping_at s m).addr) / 4096))
   unfolding verdict
-  looked_up page m c h = ap (λ (x : Found). judged access (page_flags s f (start_of addr page) x)) (laws.finds (start_of addr page) r m l a c h)
+  looked_up page m c h = ap (λ (x : Result ℕ Refusal). judged access (page_flags s f (start_of addr page) x)) (laws.finds (start_of addr page) r m l a c h)
 
   module _ (page last m : ℕ) (from : addr / 4096 ≤ page) (to : page ≤ last) (in_region_lem : contains (region_at s r).addr (region_at s r).size (start_of addr page) ≡ true)
       (h : Holds s (start_of addr page) m) where
@@ -222,7 +218,7 @@ module _ (s : Space) (f : List ℕ) (p : Passes s f) (r : ℕ) (l : r < 32) (a :
     byte_of = refl
 
     -- what the bytes tell of the stretch
-    pub told : (x : Stretch) → Tested f (m * 512 + (page - (mapping_at s m).addr / 4096)) (pages_in (mapping_at s m) page last) access x
+    pub told : (x : Result ℕ Refusal) → Tested f (m * 512 + (page - (mapping_at s m).addr / 4096)) (pages_in (mapping_at s m) page last) access x
         → Stretched (verdict s f r addr access) page last x
     told x (no_user u e) =
         let n = counted (mapping_at s m) page last page_of to in

@@ -1,11 +1,5 @@
 -- What the walk's answer says of the table: a leaf with its entry, or an unused entry.
-use Prim.Native.Nat.{ℕ, ◌+◌, ◌-◌, ◌*◌, ◌/◌, ◌≤◌, ◌<◌}
-use mathlib.Core.Path.{◌≡◌, refl, sym, subst}
-use mathlib.Core.Bool.{Bool, true, false}
-use mathlib.Core.List.{List}
-use native.Mathlib.Omega.{arith}
-use lib.ListN.{length}
-use borrow.Author.Tests.{eqb-true}
+use Rattle.std.proofs.Common.{ℕ, ◌+◌, ◌-◌, ◌*◌, ◌/◌, ◌≤◌, ◌<◌, ◌≡◌, refl, sym, subst, Bool, true, false, List, arith, length, eqb-true}
 use Rattle.paging.specs.Choice.{pick}
 use Rattle.paging.specs.Level.{index}
 use Rattle.paging.specs.Format.{leaf, Entry}

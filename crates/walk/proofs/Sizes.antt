@@ -1,7 +1,5 @@
 -- The three levels of a leaf and the three sizes.
-use Prim.Native.Nat.{ℕ, zero, suc, ◌≤◌}
-use mathlib.Core.Path.{◌≡◌, refl}
-use native.Mathlib.Omega.{arith}
+use Rattle.std.proofs.Common.{ℕ, zero, suc, ◌≤◌, ◌≡◌, refl, arith}
 use Rattle.paging.specs.Level.{span}
 use Rattle.common.specs.Page.{level_of, size_of}
 use Rattle.walk.specs.Walk.{size_at}

@@ -1,20 +1,17 @@
 -- One step of the walk in a well-formed pool: where it stands, how it goes on, and where it stops.
-use Prim.Native.Nat.{ℕ, suc, ◌+◌, ◌-◌, ◌≤◌, ◌<◌}
-use mathlib.Core.Path.{◌≡◌, sym, ap, ◌∙◌, subst}
-use mathlib.Core.Bool.{true, false}
-use mathlib.Core.List.{List}
-use native.Mathlib.Omega.{arith}
-use native.Mathlib.Nat.{add-sub_cancel_left}
+use Rattle.std.proofs.Common.{◌/◌, ℕ, suc, ◌+◌, ◌-◌, ◌≤◌, ◌<◌, ◌≡◌, sym, ap, ◌∙◌, subst, true, false, List, arith}
+use Rattle.std.proofs.Math.Nat.{add-sub_cancel_left}
 use Rattle.paging.specs.Level.{index}
 use Rattle.paging.specs.Format.{table, Entry}
 use Rattle.paging.specs.Table.{hit, walk}
 use Rattle.paging.specs.Way.{some, way}
 use Rattle.paging.proofs.Levels.{index_lt}
 use Rattle.paging.proofs.Walks.{NoTable, leaf_bar, nothing_bar, way_in, ends_at, on}
-use Rattle.x86_64.specs.Entry.{frame_of, is_unused, is_leaf, x86}
+use Rattle.x86_64.specs.Entry.{frame_of, addr_of, is_unused, is_leaf, x86}
 use Rattle.x86_64.proofs.Format.{leaf_entry, unused_entry, table_entry}
 use Rattle.pool.specs.Pool.{word, mem_of, Taken}
-use Rattle.form.specs.Form.{WellFormed}
+use Rattle.form.specs.Form.{WellFormed, Good}
+use Rattle.common.specs.declared.vm.PageSize.{PageSize}
 use Rattle.walk.specs.Walk.{size_at, found_at, found}
 use Rattle.walk.specs.declared.Walk.TheVariants.{Leaf, Open}
 
@@ -88,4 +85,40 @@ module _ (p : List ℕ) (b used : ℕ) (T : WellFormed p b used) (v l f : ℕ) (
         lower = lo;
         frame = fr;
         stands = record { low = omega (arith, S.low); taken = omega arith; at = w ∙ ap some fr };
+      }
+
+-- the same by what the code has read: the place, the word there, and what its tests say
+module _ {p : List ℕ} {base used v l f place w : ℕ} (G : Good p base used) (S : Stands p (base / 4096) used v l f) (at : place ≡ index l v)
+    (read : w ≡ word p f place) where
+  is_here : word p f (index l v) ≡ w
+  is_here = ap (word p f) (sym at) ∙ sym read
+
+  pub leaf_found : {size : PageSize} → true ≡ is_leaf w → size ≡ size_at l
+      → Leaf (record { frame = f; place = place; size = size }) ≡ found p (base / 4096) v
+  leaf_found {size} e z =
+      ap (λ (n : ℕ). Leaf (record { frame = f; place = n; size = size })) at
+      ∙ ap (λ (s : PageSize). Leaf (record { frame = f; place = index l v; size = s })) z
+      ∙ sym (stop_leaf p (base / 4096) used G.formed v l f S (ap is_leaf is_here ∙ sym e))
+
+  pub open_found : false ≡ is_leaf w → true ≡ is_unused w → Open (record { level = l; frame = f; place = place }) ≡ found p (base / 4096) v
+  open_found e u =
+      ap (λ (n : ℕ). Open (record { level = l; frame = f; place = n })) at
+      ∙ sym (stop_open p (base / 4096) used G.formed v l f S (ap is_leaf is_here ∙ sym e) (ap is_unused is_here ∙ sym u))
+
+  -- a table entry with the address a
+  pub record Below (a : ℕ) : Type 0 where
+    pub lower : 0 < l
+    pub above : base ≤ a
+    pub stands : Stands p (base / 4096) used v (l - 1) ((a - base) / 4096)
+
+  pub below : {a : ℕ} → false ≡ is_leaf w → false ≡ is_unused w → a ≡ addr_of w → Below a
+  below {a} e u q =
+      let n = next p (base / 4096) used G.formed v l f S (ap is_leaf is_here ∙ sym e) (ap is_unused is_here ∙ sym u) in
+      let reached : frame_of w ≡ base / 4096 + n.g = ap frame_of (sym is_here) ∙ n.frame in
+      let m : n.m ≡ l - 1 = omega (arith, n.lower) in
+      let g : n.g ≡ (a - base) / 4096 = omega (arith, q, reached, G.sized.page) in
+      record {
+        lower = omega (arith, n.lower);
+        above = omega (arith, q, reached, G.sized.page);
+        stands = rw m at (rw g at n.stands);
       }

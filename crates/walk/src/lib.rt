@@ -6,12 +6,12 @@ ghost use Rattle.paging.specs.Level.{span, index};
 ghost use Rattle.form.specs.Form.{Good};
 ghost use Rattle.walk.specs.Walk.{size_at, found};
 
-use common::defs::VirtAddr;
+use common::defs::{PAGE_SIZE, VirtAddr};
 use common::vm::PageSize;
 use x86_64::vm::X86PTE;
 
 // The leaf over an address: the frame and the place of its entry, and its size.
-#[derive(Clone, Copy)]
+#[derive(Clone, Copy, Debug, PartialEq, Eq)]
 pub struct LeafEntry {
     pub frame: usize,
     pub place: usize,
@@ -19,14 +19,14 @@ pub struct LeafEntry {
 }
 
 // The unused entry that a walk stops at.
-#[derive(Clone, Copy)]
+#[derive(Clone, Copy, Debug, PartialEq, Eq)]
 pub struct OpenEntry {
     pub level: usize,
     pub frame: usize,
     pub place: usize,
 }
 
-#[derive(Clone, Copy)]
+#[derive(Clone, Copy, Debug, PartialEq, Eq)]
 pub enum Walk {
     Leaf(LeafEntry),
     Open(OpenEntry),
@@ -76,6 +76,7 @@ pub fn get_entry(pool: &[u64], base: u64, used: usize, vaddr: VirtAddr) -> Walk
 {
     let mut level: usize = 3;
     let mut frame: usize = 0;
+    // every walk ends at its lowest level at the latest; a `for` over the levels would have to give an answer after that
     loop {
         let place = index_at(level, vaddr);
         let entry = X86PTE(pool::entry_at(pool, frame, place));
@@ -93,7 +94,7 @@ pub fn get_entry(pool: &[u64], base: u64, used: usize, vaddr: VirtAddr) -> Walk
                 place,
             });
         }
-        frame = ((entry.addr() - base) / 4096) as usize;
+        frame = ((entry.addr() - base) / PAGE_SIZE) as usize;
         level -= 1;
     }
 }

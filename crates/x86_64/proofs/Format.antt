@@ -1,10 +1,6 @@
 -- x86-64 entries meet what walking and splitting need of a format.
-use Prim.Native.Nat.{ℕ, ◌-◌, ◌*◌, ◌/◌, ◌%◌, ◌^◌, ◌≤◌, ◌<◌}
-use mathlib.Core.Path.{◌≡◌, refl, ap, ◌∙◌, subst}
-use mathlib.Core.Bool.{Bool, true, false, ◌&&◌}
-use native.Mathlib.Omega.{arith}
-use lib.Dec.{eqb, ltb, leb, lit≤}
-use borrow.Author.Tests.{eq-eqb, ne_eqb, le-leb, lt-leb, lt-ltb, leb-true, ltb-true, eqb-true, eqb-false}
+use Rattle.std.proofs.Common.{ℕ, ◌-◌, ◌*◌, ◌/◌, ◌%◌, ◌^◌, ◌≤◌, ◌<◌, ◌≡◌, refl, ap, ◌∙◌, subst, Bool, true, false, ◌&&◌, arith, eqb, ltb, leb, lit≤, eq-eqb, ne_eqb, le-leb, lt-ltb, leb-true, ltb-true, eqb-true}
+use Rattle.std.proofs.lemmas.Bool.{lt-leb, eqb-false}
 use Rattle.paging.specs.Choice.{pick, Decided}
 use Rattle.paging.specs.Level.{span}
 use Rattle.paging.specs.Format.{nothing, leaf, table, LeafReads, Lawful, Entry, written, Formats}
@@ -44,24 +40,24 @@ leaf_kind : (l w : ℕ) → kind_at l w ≡ leaf → l ≤ 2
 leaf_kind l w = go (eqb w 0) (eqb (bit 9 w) 1) (leb l 2) refl (ltb 0 l && leb l 3)
   where
     go : (a b c : Bool) → leb l 2 ≡ c → (d : Bool) → pick a nothing (pick b (pick c leaf nothing) (pick d (table (frame_of w)) nothing)) ≡ leaf → l ≤ 2
-    go true b c e d k = absurd (let z : ◌≡◌ {A = ℕ} 0 1 = cc in omega arith)
+    go true b c e d k = cc
     go false true true e d k = leb-true l 2 e
-    go false true false e d k = absurd (let z : ◌≡◌ {A = ℕ} 0 1 = cc in omega arith)
-    go false false c e true k = absurd (let z : ◌≡◌ {A = ℕ} 0 1 = cc in omega arith)
-    go false false c e false k = absurd (let z : ◌≡◌ {A = ℕ} 0 1 = cc in omega arith)
+    go false true false e d k = cc
+    go false false c e true k = cc
+    go false false c e false k = cc
 
 table_kind : (l w m : ℕ) → kind_at l w ≡ table m → (0 < l) × (l ≤ 3) × (m * 4096 < 2 ^ 52)
 table_kind l w m = go (eqb w 0) (eqb (bit 9 w) 1) (leb l 2) (ltb 0 l && leb l 3) refl
   where
     go : (a b c d : Bool) → ltb 0 l && leb l 3 ≡ d → pick a nothing (pick b (pick c leaf nothing) (pick d (table (frame_of w)) nothing)) ≡ table m → (0 < l) × (l ≤ 3) × (m * 4096 < 2 ^ 52)
-    go true b c d e k = absurd (let z : ◌≡◌ {A = ℕ} 0 1 = cc in omega arith)
-    go false true true d e k = absurd (let z : ◌≡◌ {A = ℕ} 0 1 = cc in omega arith)
-    go false true false d e k = absurd (let z : ◌≡◌ {A = ℕ} 0 1 = cc in omega arith)
+    go true b c d e k = cc
+    go false true true d e k = cc
+    go false true false d e k = cc
     go false false c true e k =
         let t = both (ltb 0 l) (leb l 3) e in
         let f : frame_of w ≡ m = cc in
         (ltb-true 0 l t.0, leb-true l 3 t.1, omega (arith, addr_lt w))
-    go false false c false e k = absurd (let z : ◌≡◌ {A = ℕ} 0 1 = cc in omega arith)
+    go false false c false e k = cc
 
 -- an aligned address is that of a frame
 reads : (l p f a : ℕ) → l ≤ 2 → (p % span l ≡ 0) × (p < 2 ^ 52) → a < 4 → LeafReads x86 l (leaf_by (ltb 0 l) p f a) p (granted f) a

@@ -1,30 +1,58 @@
 -- What the words that the rules write read back as. Each is given by its parts, numbers of one bit or few, so that every reading of it is
 -- one sum.
-use Prim.Native.Nat.{ℕ, ◌+◌, ◌-◌, ◌*◌, ◌/◌, ◌%◌, ◌^◌, ◌≤◌, ◌<◌, min}
-use mathlib.Core.Path.{◌≡◌, refl, ap, ◌∙◌}
-use mathlib.Core.Bool.{Bool, true, false}
-use native.Mathlib.Omega.{arith}
-use native.Mathlib.Nat.{add-zero, mod-lt}
-use lib.Dec.{lit<}
-use Rattle.common.specs.Flags.{READ, WRITE, EXECUTE, USER, has}
+use Rattle.std.proofs.Common.{ℕ, zero, suc, ◌+◌, ◌-◌, ◌*◌, ◌/◌, ◌%◌, ◌^◌, ◌<◌, min, ◌≡◌, refl, sym, ap, ◌∙◌, Bool, true, false, not, eqb, arith, add-zero, one-add, pow-suc, pow_pos, one-mul, zero-mul, mod-lt, lit<, bit_and, eq-eqb, ne_eqb}
+use Rattle.std.proofs.lemmas.Nat.Bits.{and_high}
+use Rattle.paging.specs.Choice.{pick}
+use Rattle.common.specs.Flags.{READ, WRITE, EXECUTE, USER, has, grants}
 use Rattle.x86_64.specs.Entry.{bit, frame_of, addr_of, marks_of, table_word, any_right, rights, huge_bit, leaf_by, flags_of, granted}
 
-pub rights_lt : (f : ℕ) → rights f < 2 ^ 63 + 2 ^ 10
-rights_lt f = omega arith
+-- a mask of one bit
+mask_one : (w k : ℕ) → bit_and w (2 ^ k) ≡ bit k w * 2 ^ k
+mask_one w k =
+    let e : 2 ^ (1 + k) - 2 ^ k ≡ 2 ^ k = rw (one-add, pow-suc) (omega arith) in
+    ap (bit_and w) (sym e) ∙ and_high w 1 k
 
-pub huge_le : (h : Bool) → huge_bit h ≤ 2 ^ 7
-huge_le true = omega arith
-huge_le false = omega arith
+pub bit_lt : (k w : ℕ) → bit k w < 2
+bit_lt k w = mod-lt (w / 2 ^ k) (lit< tt)
+
+pub one_bit : (w k : ℕ) → grants w (2 ^ k) ≡ eqb (bit k w) 1
+one_bit w k = ap (λ (n : ℕ). eqb n (2 ^ k)) (mask_one w k) ∙ go (bit k w) (bit_lt k w)
+  where
+    go : (x : ℕ) → x < 2 → eqb (x * 2 ^ k) (2 ^ k) ≡ eqb x 1
+    go zero h = ne_eqb (0 * 2 ^ k) (2 ^ k) (λ e. omega (arith, pow_pos k))
+    go (suc zero) h = eq-eqb (1 * 2 ^ k) (2 ^ k) (one-mul (2 ^ k))
+    go (suc (suc x)) h = absurd (omega arith)
+
+-- what a bit of a word gives where it is set, and where it is not
+pub if_bit : (w k v : ℕ) {t : Bool} {r : ℕ} → t ≡ eqb (bit k w) 1 → r ≡ pick t v 0 → r ≡ bit k w * v
+if_bit w k v e p = p ∙ ap (λ (t : Bool). pick t v 0) e ∙ go (bit k w) (bit_lt k w)
+  where
+    go : (x : ℕ) → x < 2 → pick (eqb x 1) v 0 ≡ x * v
+    go zero h = sym (zero-mul v)
+    go (suc zero) h = sym (one-mul v)
+    go (suc (suc x)) h = absurd (omega arith)
+
+pub unless_bit : (w k v : ℕ) {t : Bool} {r : ℕ} → t ≡ eqb (bit k w) 1 → r ≡ pick (not t) v 0 → r ≡ (1 - bit k w) * v
+unless_bit w k v e p = p ∙ ap (λ (t : Bool). pick (not t) v 0) e ∙ go (bit k w) (bit_lt k w)
+  where
+    go : (x : ℕ) → x < 2 → pick (not (eqb x 1)) v 0 ≡ (1 - x) * v
+    go zero h = sym (one-mul v)
+    go (suc zero) h = sym (zero-mul v)
+    go (suc (suc x)) h = absurd (omega arith)
+
+-- any of READ, WRITE and EXECUTE
+pub if_any : (f : ℕ) → pick (not (eqb (bit_and f 0x1c) 0)) 1 0 ≡ any_right f
+if_any f = ap (λ (n : ℕ). pick (not (eqb n 0)) 1 0) (and_high f 3 2) ∙ go (f / 4 % 8) parts
+  where
+    parts : f / 4 % 8 ≡ has READ f + has WRITE f * 2 + has EXECUTE f * 4
+    parts = omega arith
+
+    go : (x : ℕ) → x ≡ has READ f + has WRITE f * 2 + has EXECUTE f * 4 → pick (not (eqb (x * 4) 0)) 1 0 ≡ any_right f
+    go zero e = omega arith
+    go (suc x) e = rw (ne_eqb (suc x * 4) 0 (λ z. omega arith)) (omega arith)
 
 pub addr_lt : (w : ℕ) → addr_of w < 2 ^ 52
 addr_lt w = omega arith
-
--- an address that was read is read again as itself
-pub frame_again : (w : ℕ) → frame_of (addr_of w) ≡ frame_of w
-frame_again w = omega arith
-
-down_again : (w s : ℕ) → addr_of w % s ≡ 0 → addr_of (addr_of w - addr_of w % s) ≡ addr_of w
-down_again w s e = ap addr_of (omega arith) ∙ ap (λ (n : ℕ). n * 4096) (frame_again w)
 
 pub marks_lt : (w : ℕ) → marks_of w < 4
 marks_lt w = omega arith
@@ -32,14 +60,6 @@ marks_lt w = omega arith
 -- bits 5 and 6 ride on a leaf
 pub with_marks : (h : Bool) (p f a m : ℕ) → m ≡ a * 2 ^ 5 → leaf_by h p f 0 + m ≡ leaf_by h p f a
 with_marks h p f a m e = ap (λ (n : ℕ). p + rights f + huge_bit h + 0 + n) e ∙ ap (λ (n : ℕ). n + a * 2 ^ 5) (add-zero (p + rights f + huge_bit h))
-
--- what was read of a word as a leaf of size n, written again: the address p, the flags f, and m for bits 5 and 6
-pub leaf_same : (h : Bool) (n w p f m r : ℕ) → addr_of w % n ≡ 0 → p ≡ addr_of w → f ≡ flags_of w → m ≡ marks_of w * 2 ^ 5
-    → r ≡ leaf_by h (addr_of (p - p % n)) f 0 → r + m ≡ leaf_by h (addr_of w) (flags_of w) (marks_of w)
-leaf_same h n w p f m r o ep ef em er =
-    ap (λ (k : ℕ). k + m) (er ∙ ap (λ (k : ℕ). leaf_by h (addr_of (k - k % n)) f 0) ep ∙ ap (λ (k : ℕ). leaf_by h (addr_of (addr_of w - addr_of w % n)) k 0) ef)
-    ∙ ap (λ (k : ℕ). leaf_by h k (flags_of w) 0 + m) (down_again w n o)
-    ∙ with_marks h (addr_of w) (flags_of w) (marks_of w) m em
 
 -- a set of page flags, by READ, WRITE, EXECUTE and USER
 pub record FlagParts (f p r x u : ℕ) : Type 0 where
@@ -108,7 +128,7 @@ leaf_word_lem huge x f a hx ha = go huge
     go false = leaf_parts (leaf_by false (x * 4096) f a) x (any_right f) (has WRITE f) (has USER f) a 0 (1 - has EXECUTE f) hx (any_lt f) (has_lt WRITE f) (has_lt USER f) ha (lit< tt) (omega arith) (omega arith)
 
 -- such a leaf shows the flags that it grants
-not_not : (x : ℕ) → x < 2 → 1 - (1 - x) ≡ x
+pub not_not : (x : ℕ) → x < 2 → 1 - (1 - x) ≡ x
 not_not x h = omega arith
 
 pub leaf_flags : (w x f a : ℕ) → LeafParts w x (any_right f) (has WRITE f) (has USER f) a (1 - has EXECUTE f) → flags_of w ≡ granted f

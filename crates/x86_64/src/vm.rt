@@ -6,16 +6,17 @@
 //
 // The processor sets A and D. `addr` and `flags` ignore them, and writing rights drops them.
 ghost use Rattle.std.specs.Prelude.{◌≡◌, ◌+◌, ◌-◌, ◌*◌, ◌%◌, ◌^◌, ◌&&◌, eqb};
-ghost use Rattle.paging.specs.Choice.{Decided};
+ghost use Rattle.paging.specs.Choice.{pick, Decided};
 ghost use Rattle.paging.specs.Format.{Entry};
+ghost use Rattle.common.specs.Flags.{grants};
 ghost use Rattle.common.specs.Page.{size_of, aligned, is_huge};
-ghost use Rattle.x86_64.specs.Entry.{frame_of, addr_of, marks_of, flags_of, is_unused, is_present, is_leaf, rights, any_right, huge_bit, leaf_by, table_word, x86};
+ghost use Rattle.x86_64.specs.Entry.{frame_of, addr_of, marks_of, flags_of, is_unused, is_present, is_leaf, rights, leaf_by, table_word, x86};
 
 use common::defs::{MMUFlags, PhysAddr};
 use common::vm::PageSize;
 
 // The bits of an entry beside its address.
-#[derive(Clone, Copy)]
+#[derive(Clone, Copy, Debug, PartialEq, Eq)]
 pub struct PTF(pub u64);
 
 impl PTF {
@@ -25,50 +26,38 @@ impl PTF {
 
     pub const USER_ACCESSIBLE: PTF = PTF(1 << 2);
 
+    pub const ACCESSED: PTF = PTF(1 << 5);
+
+    pub const DIRTY: PTF = PTF(1 << 6);
+
     pub const HUGE_PAGE: PTF = PTF(1 << 7);
     // The manual leaves it to software. Here it marks leaves, so that one without rights is still an entry.
     pub const BIT_9: PTF = PTF(1 << 9);
 
     pub const NO_EXECUTE: PTF = PTF(1 << 63);
+}
 
-    // The bits of a 4 KiB leaf with these page flags.
-    fn from(f: MMUFlags) -> PTF
-        ensures { result.0 ≡ rights f.0 }
-    {
-        let write = f.0 / MMUFlags::WRITE.0 % 2;
-        let user = f.0 / MMUFlags::USER.0 % 2;
-        let execute = f.0 / MMUFlags::EXECUTE.0 % 2;
+// The bits of a 4 KiB leaf with these page flags.
+impl From<MMUFlags> for PTF {
+    ghost from_gives = { λ f p. p.0 ≡ rights f.0 };
+
+    fn from(f: MMUFlags) -> PTF {
+        let present = f.0 & MMUFlags::RXW.0 != 0;
         PTF(
-            present(f) * PTF::PRESENT.0
-                + write * PTF::WRITABLE.0
-                + user * PTF::USER_ACCESSIBLE.0
+            bits_if(present, PTF::PRESENT.0)
+                + bits_if(f.contains(MMUFlags::WRITE), PTF::WRITABLE.0)
+                + bits_if(f.contains(MMUFlags::USER), PTF::USER_ACCESSIBLE.0)
                 + PTF::BIT_9.0
-                + (1 - execute) * PTF::NO_EXECUTE.0,
+                + bits_if(!f.contains(MMUFlags::EXECUTE), PTF::NO_EXECUTE.0),
         )
-    }
-
-    // The bit that a larger leaf has besides.
-    fn huge(is_huge: bool) -> PTF
-        ensures { result.0 ≡ huge_bit is_huge }
-    {
-        if is_huge {
-            return PTF::HUGE_PAGE;
-        }
-        PTF(0)
     }
 }
 
-// 1 where any of READ, WRITE, EXECUTE is given, else 0.
-fn present(f: MMUFlags) -> u64
-    ensures { result ≡ any_right f.0 }
+// The bits, if they are wanted.
+fn bits_if(wanted: bool, bits: u64) -> u64
+    ensures { result ≡ pick wanted bits 0 }
 {
-    let read = f.0 / MMUFlags::READ.0 % 2;
-    let write = f.0 / MMUFlags::WRITE.0 % 2;
-    let execute = f.0 / MMUFlags::EXECUTE.0 % 2;
-    if read + write + execute == 0 {
-        return 0;
-    }
-    1
+    if wanted { bits } else { 0 }
 }
 
 const PHYS_ADDR_MASK: u64 = 0x000f_ffff_ffff_f000; // 12..52
@@ -81,7 +70,7 @@ fn phys_addr(paddr: u64) -> PhysAddr
 }
 
 // Page table entry on x86.
-#[derive(Clone, Copy)]
+#[derive(Clone, Copy, Debug, PartialEq, Eq)]
 pub struct X86PTE(pub u64);
 
 impl X86PTE {
@@ -97,16 +86,18 @@ impl X86PTE {
     pub fn flags(self) -> MMUFlags
         ensures { result.0 ≡ flags_of self.0 }
     {
-        let present = self.0 / PTF::PRESENT.0 % 2;
-        let write = self.0 / PTF::WRITABLE.0 % 2;
-        let user = self.0 / PTF::USER_ACCESSIBLE.0 % 2;
-        let no_execute = self.0 / PTF::NO_EXECUTE.0 % 2;
         MMUFlags(
-            present * MMUFlags::READ.0
-                + write * MMUFlags::WRITE.0
-                + (1 - no_execute) * MMUFlags::EXECUTE.0
-                + user * MMUFlags::USER.0,
+            bits_if(self.is_present(), MMUFlags::READ.0)
+                + bits_if(self.contains(PTF::WRITABLE), MMUFlags::WRITE.0)
+                + bits_if(!self.contains(PTF::NO_EXECUTE), MMUFlags::EXECUTE.0)
+                + bits_if(self.contains(PTF::USER_ACCESSIBLE), MMUFlags::USER.0),
         )
+    }
+
+    fn contains(self, bit: PTF) -> bool
+        ensures { result ≡ grants self.0 bit.0 }
+    {
+        self.0 & bit.0 == bit.0
     }
 
     pub fn is_unused(self) -> bool
@@ -118,14 +109,14 @@ impl X86PTE {
     pub fn is_present(self) -> bool
         ensures { result ≡ is_present self.0 }
     {
-        self.0 / PTF::PRESENT.0 % 2 == 1
+        self.contains(PTF::PRESENT)
     }
 
     // Of any size: the Rust's test is for large ones alone.
     pub fn is_leaf(self) -> bool
         ensures { result ≡ is_leaf self.0 }
     {
-        self.0 / PTF::BIT_9.0 % 2 == 1
+        self.contains(PTF::BIT_9)
     }
 
     // All other bits stay.
@@ -139,7 +130,7 @@ impl X86PTE {
     pub fn set_flags(self, flags: MMUFlags, is_huge: bool) -> X86PTE
         ensures { result.0 ≡ leaf_by is_huge (addr_of self.0) flags.0 0 }
     {
-        X86PTE(self.addr() + PTF::from(flags).0 + PTF::huge(is_huge).0)
+        X86PTE(self.addr() + PTF::from(flags).0 + bits_if(is_huge, PTF::HUGE_PAGE.0))
     }
 
     pub fn set_table(self, paddr: PhysAddr) -> X86PTE
@@ -157,11 +148,11 @@ impl X86PTE {
             .set_flags(flags, size.is_huge())
     }
 
-    // What stands in bits 5 and 6.
+    // What the processor has set.
     fn marks(self) -> u64
         ensures { result ≡ marks_of self.0 * 2 ^ 5 }
     {
-        self.0 / 32 % 4 * 32
+        self.0 & (PTF::ACCESSED.0 | PTF::DIRTY.0)
     }
 
     // Whether this is a leaf of the size: what is read of it, written again, is the word.
@@ -169,10 +160,7 @@ impl X86PTE {
         ensures { result ≡ aligned size (addr_of self.0) && eqb (leaf_by (is_huge size) (addr_of self.0) (flags_of self.0) (marks_of self.0)) self.0 }
     {
         let paddr = self.addr();
-        if !size.is_aligned(paddr) {
-            return false;
-        }
-        X86PTE::leaf(paddr, self.flags(), size).0 + self.marks() == self.0
+        size.is_aligned(paddr) && X86PTE::leaf(paddr, self.flags(), size).0 + self.marks() == self.0
     }
 
     // Whether this is a table entry, found the same way.

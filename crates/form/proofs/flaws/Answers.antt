@@ -1,14 +1,10 @@
 -- `flaws`: what has none is plain.
-use native.Mathlib.Omega.{arith}
+use Rattle.std.proofs.Common.{arith}
 use Rattle.form.proofs.Flawless.{agree_le, flawless}
 use Rattle.form.proofs.flaws.Goals as goal
 
 pub overflow_mul-leaf : goal.overflow_mul-leaf
 overflow_mul-leaf c = let l = agree_le c.args.w c.ranges.w.fits in record { fits = omega arith }
 
-pub overflow_sub-result : goal.overflow_sub-result
-overflow_sub-result c = let l = agree_le c.args.w c.ranges.w.fits in omega arith
-
 pub returns : goal.returns
-returns c =
-    flawless c.args.w c.ranges.w.fits c.args.bits.mask c.args.bits.tag (omega arith) (omega arith)
+returns c = flawless c.args.w c.ranges.w.fits c.args.bits.mask c.args.bits.tag (omega arith) (omega arith)

@@ -1,6 +1,5 @@
 -- `bench_is_good`: the answer as a number.
-use mathlib.Core.Path.{refl}
-use borrow.Author.Rules.{rules}
+use Rattle.std.proofs.Common.{refl}
 use Rattle.paging.specs.Choice.{refused, taken}
 use Rattle.paging.proofs.Cases.{decided_true, decided_false}
 use Rattle.form_bench.proofs.bench_is_good.Goals as goal

@@ -1,11 +1,8 @@
 -- `are_all_pages`: slot after slot.
-use Prim.Native.Nat.{ℕ, ◌-◌, ◌/◌, ◌≤◌, ◌<◌}
+use Rattle.std.proofs.Common.{ℕ, ◌/◌, ◌<◌}
 use Rattle.space.specs.Space.{mapping_at}
 use Rattle.space.specs.Passes.{Pages}
 use Rattle.space_pages.proofs.are_all_pages.Given as goal
 
 abbrev pub invariant-loop-i : goal.invariant-loop-i
-invariant-loop-i l = (l.i ≤ 64) × ((j : ℕ) → j < l.i → Pages l.flags j ((mapping_at l.s j).size / 4096))
-
-abbrev pub decreases-loop-i : goal.decreases-loop-i
-decreases-loop-i l = 64 - l.i
+invariant-loop-i l = (j : ℕ) → j < l.i → Pages l.flags j ((mapping_at l.s j).size / 4096)

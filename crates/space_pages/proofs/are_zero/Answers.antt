@@ -1,12 +1,8 @@
-use native.Mathlib.Omega.{arith}
-use Rattle.scan.proofs.Gather.{nothing, more, gathered}
+use Rattle.scan.proofs.Gather.{nothing, more}
 use Rattle.space_pages.proofs.are_zero.Goals as goal
 
-pub loop-j-init : goal.loop-j-init
-loop-j-init c = (omega arith, nothing _)
+pub loop-byte-init : goal.loop-byte-init
+loop-byte-init c = nothing _
 
-pub loop-j-preserved : goal.loop-j-preserved
-loop-j-preserved c = (omega arith, more _ _ _ _ c.loop-j.invariant.1 (λ e. e) (λ e. e))
-
-pub returns : goal.returns
-returns c = gathered _ _ c.loop-j.j _ c.loop-j.invariant.0 c.loop-j-test.false c.loop-j.invariant.1
+pub loop-byte-preserved : goal.loop-byte-preserved
+loop-byte-preserved c = more _ _ _ _ c.loop-byte.invariant (λ e. e) (λ e. e)

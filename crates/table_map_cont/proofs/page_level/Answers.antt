@@ -1,34 +1,19 @@
-use mathlib.Core.Path.{refl, sym, ◌∙◌}
-use native.Mathlib.Omega.{arith}
+use Rattle.std.proofs.Common.{sym, ◌∙◌, arith}
 use Rattle.table_map_cont.specs.MapCont.{fits}
 use Rattle.table_map_cont.proofs.Heights.{highest_here, highest_below, highest_none}
 use Rattle.table_map_cont.proofs.page_level.Goals as goal
 
-pub loop-level-init : goal.loop-level-init
-loop-level-init c = (c.requires, refl)
-
-pub is_fit-requires : goal.is_fit-requires
-is_fit-requires c = omega arith
-
 pub returns-then-is_fit : goal.returns-then-is_fit
 returns-then-is_fit c =
     let a = c.args in
-    sym (highest_here (fits a.vaddr a.paddr a.remains) c.loop-level.level c.loop-level-test.true (sym c.is_fit.ensures ∙ c.if-is_fit.true)) ∙ c.loop-level.invariant.1
-
-pub overflow_sub-level : goal.overflow_sub-level
-overflow_sub-level c = omega arith
-
-pub loop-level-smaller : goal.loop-level-smaller
-loop-level-smaller c = omega arith
+    sym (highest_here (fits a.vaddr a.paddr a.remains) c.loop-level.level c.loop-level-test.true (sym c.is_fit.ensures ∙ c.if-is_fit.true)) ∙ c.loop-level.invariant
 
 pub loop-level-preserved : goal.loop-level-preserved
 loop-level-preserved c =
-    let a = c.args in (
-      omega arith,
-      sym (highest_below (fits a.vaddr a.paddr a.remains) c.loop-level.level c.loop-level-test.true (sym c.is_fit.ensures ∙ c.if-is_fit.false)) ∙ c.loop-level.invariant.1,
-    )
+    let a = c.args in
+    sym (highest_below (fits a.vaddr a.paddr a.remains) c.loop-level.level c.loop-level-test.true (sym c.is_fit.ensures ∙ c.if-is_fit.false)) ∙ c.loop-level.invariant
 
 pub returns : goal.returns
 returns c =
     let a = c.args in
-    sym (highest_none (fits a.vaddr a.paddr a.remains) c.loop-level.level (omega arith)) ∙ c.loop-level.invariant.1
+    sym (highest_none (fits a.vaddr a.paddr a.remains) c.loop-level.level (omega arith)) ∙ c.loop-level.invariant

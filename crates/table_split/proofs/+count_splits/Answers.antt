@@ -10,19 +10,10 @@ returns-then-level-eq0 t c =
     let a = c.args in
     splits_none a.vaddr a.level c.if-level-eq0.true
 
-pub span_at-requires : goal.span_at-requires
-span_at-requires t c = c.requires
-
 pub returns-then-vaddr-span_at-eq0 : goal.returns-then-vaddr-span_at-eq0
 returns-then-vaddr-span_at-eq0 t c =
     let a = c.args in
     sym (splits_aligned a.level a.vaddr (ap (λ (n : ℕ). a.vaddr % n) (sym c.span_at.ensures) ∙ c.if-vaddr-span_at-eq0.true))
-
-pub overflow_sub-level : goal.overflow_sub-level
-overflow_sub-level t c = omega (arith, c.if-level-eq0.false)
-
-pub count_splits-requires : goal.count_splits-requires
-count_splits-requires t c = (omega (arith, c.decreases, c.if-level-eq0.false), omega (arith, c.requires))
 
 pub overflow_add-result : goal.overflow_add-result
 overflow_add-result t c =

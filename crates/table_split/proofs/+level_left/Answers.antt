@@ -9,9 +9,6 @@ returns-then-level-eq0 t c =
     let a = c.args in
     left_none a.start a.vaddr a.level c.if-level-eq0.true
 
-pub span_at-span-requires : goal.span_at-span-requires
-span_at-span-requires t c = c.requires
-
 pub returns-then-start-span : goal.returns-then-start-span
 returns-then-start-span t c =
     let a = c.args in
@@ -21,12 +18,6 @@ pub returns-then-start-span-eq0 : goal.returns-then-start-span-eq0
 returns-then-start-span-eq0 t c =
     let a = c.args in
     left_begin a.start a.vaddr a.level (ap (λ (n : ℕ). a.start / n) (sym c.span_at-span.ensures) ∙ c.if-start-span.false ∙ ap (λ (n : ℕ). a.vaddr / n) c.span_at-span.ensures) (ap (λ (n : ℕ). a.start % n) (sym c.span_at-span.ensures) ∙ c.if-start-span-eq0.true)
-
-pub overflow_sub-level : goal.overflow_sub-level
-overflow_sub-level t c = omega (arith, c.if-level-eq0.false)
-
-pub level_left-requires : goal.level_left-requires
-level_left-requires t c = (omega (arith, c.decreases, c.if-level-eq0.false), omega (arith, c.requires))
 
 pub returns : goal.returns
 returns t c =

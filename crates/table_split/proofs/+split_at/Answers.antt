@@ -20,9 +20,6 @@ returns-then-depth-eq0 t c =
     let a = c.args in
     at_end a.pool.now (a.base / 4096) a.used a.vaddr a.depth c.if-depth-eq0.true
 
-pub get_entry-requires : goal.get_entry-requires
-get_entry-requires t c = c.requires.good
-
 pub returns-in_default : goal.returns-in_default
 returns-in_default t c =
     let a = c.args in
@@ -40,14 +37,6 @@ split-requires t c =
     let off : aligned c.in-Leaf.leaf.size a.vaddr ≡ false = sym c.is_aligned.ensures ∙ c.if-is_aligned.false in
     let G = c.requires.good in
     let w = wants a.pool.now a.base a.used G a.vaddr c.requires.aligned.0 c.in-Leaf.leaf q off in record { placed = leaf_in a.pool.now a.base a.used a.vaddr G c.in-Leaf.leaf q; room = (omega (arith, w, c.requires.room), G.sized.page, G.sized.below) }
-
-pub overflow_add-used : goal.overflow_add-used
-overflow_add-used t c =
-    let G = c.requires.good in
-    omega (arith, G.sized.there, G.sized.few)
-
-pub overflow_sub-depth : goal.overflow_sub-depth
-overflow_sub-depth t c = omega (arith, c.if-depth-eq0.false)
 
 pub split_at-requires : goal.split_at-requires
 split_at-requires t c =

@@ -1,8 +1,5 @@
 -- `put_pieces`: the words before i are pieces, the others as they were.
-use Prim.Native.Nat.{ℕ, ◌+◌, ◌-◌, ◌*◌, ◌^◌, ◌<◌, ◌≤◌}
-use mathlib.Core.Path.{◌≡◌}
-use mathlib.Core.List.{◌++◌}
-use lib.ListN.{length, drop}
+use Rattle.std.specs.Prelude.{ℕ, ◌≡◌, ◌+◌, ◌*◌, ◌++◌, drop}
 use Rattle.common.specs.declared.vm.PageSize.{PageSize}
 use Rattle.pool.specs.Pool.{listed}
 use Rattle.table_map.specs.Map.{leaf_for}
@@ -13,8 +10,4 @@ abbrev pub word_at : PageSize → ℕ → ℕ → ℕ → ℕ → ℕ
 word_at s pa f step j = leaf_for s (pa + j * step) f
 
 abbrev pub invariant-loop-i : goal.invariant-loop-i
-invariant-loop-i l =
-    (l.i ≤ 512) × (length l.initial.table ≡ 512) × (length l.table ≡ 512) × (l.paddr < 2 ^ 52) × (l.step ≤ 2 ^ 30) × (l.table ≡ listed l.i (word_at l.size l.paddr l.flags.0 l.step) ++ drop l.i l.initial.table)
-
-abbrev pub decreases-loop-i : goal.decreases-loop-i
-decreases-loop-i l = 512 - l.i
+invariant-loop-i l = l.table ≡ listed l.i (word_at l.size l.paddr l.flags.0 l.step) ++ drop l.i l.initial.table

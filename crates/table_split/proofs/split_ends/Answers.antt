@@ -6,13 +6,8 @@ use Rattle.paging.specs.Need.{splits}
 use Rattle.form.specs.Form.{Good}
 use Rattle.table_split.specs.Split.{leaf_over, Tables, split_at}
 use Rattle.table_split.specs.Split.{split_ends}
-use Rattle.table_split.proofs.Ends.{start_at, start_room, end_at, end_room, D₁, D₂}
+use Rattle.table_split.proofs.Ends.{end_at, end_room, D₁, D₂}
 use Rattle.table_split.proofs.split_ends.Goals as goal
-
-pub split_at-after_start-requires : goal.split_at-after_start-requires
-split_at-after_start-requires c =
-    let a = c.args in
-    let r = c.requires.range in record { good = c.requires.good; aligned = (r.0, start_at a.pool.now a.base a.used c.requires.good a.start a.end r.0 r.1 r.2 r.3 c.requires.room); room = start_room a.pool.now a.base a.used c.requires.good a.start a.end r.0 r.1 r.2 r.3 c.requires.room }
 
 pub split_at-requires : goal.split_at-requires
 split_at-requires c =

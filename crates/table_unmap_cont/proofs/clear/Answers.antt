@@ -1,16 +1,16 @@
-use Prim.Native.Nat.{ℕ, ◌+◌, ◌-◌, ◌/◌, ◌%◌, ◌<◌, ◌≤◌}
+use Prim.Native.Nat.{ℕ, ◌+◌, ◌-◌, ◌/◌, ◌%◌, ◌≤◌}
 use mathlib.Core.Path.{◌≡◌, refl, sym, ap, ◌∙◌}
 use mathlib.Core.List.{List}
 use native.Mathlib.Omega.{arith}
-use native.Mathlib.Nat.{mod-lt}
 use lib.ListN.{length}
 use Rattle.walk.specs.Walk.{found}
 use Rattle.table_unmap_cont.specs.UnmapCont.{span_of, emptied, after, cleared}
-use Rattle.table_unmap_cont.proofs.Clears.{after_gt, offset_lt, cleared_end, cleared_more, cleared_last, empty}
+use Rattle.table_unmap_cont.proofs.Clears.{cleared_end, cleared_more, cleared_last, empty}
 use Rattle.table_unmap_cont.proofs.Bound.{enough}
 use Rattle.table_unmap_cont.proofs.clear.Goals as goal
 
 -- the next entry begins where the code finds it
+
 next : (p : List ℕ) (b v s : ℕ) → s ≡ span_of (found p b v) → after p b v ≡ v + (s - v % s)
 next p b v s e = ap (λ (n : ℕ). v + (n - v % n)) (sym e)
 
@@ -19,23 +19,6 @@ loop-vaddr-init c =
     let a = c.args in
     (c.requires.good, refl, sym (enough a.base a.used a.end a.pool.now a.start c.requires.good c.requires.within.1))
 
-pub clear_entry-span-requires : goal.clear_entry-span-requires
-clear_entry-span-requires c = c.loop-vaddr.invariant.0
-
-pub overflow_sub-left : goal.overflow_sub-left
-overflow_sub-left c =
-    let x = c.loop-vaddr in
-    let h : 0 < c.clear_entry-span.result = omega (arith, c.clear_entry-span.ensures.cleared.1, (offset_lt x.pool (c.args.base / 4096) x.vaddr).0) in
-    omega (arith, mod-lt x.vaddr h)
-
-pub overflow_sub-end : goal.overflow_sub-end
-overflow_sub-end c = omega arith
-
-pub shape_of-pool-then-end-vaddr : goal.shape_of-pool-then-end-vaddr
-shape_of-pool-then-end-vaddr c =
-    let x = c.loop-vaddr in
-    ap length c.clear_entry-span.ensures.cleared.0 ∙ (empty x.pool c.args.base c.args.used x.invariant.0 x.vaddr).long ∙ x.invariant.1
-
 pub returns-then-end-vaddr : goal.returns-then-end-vaddr
 returns-then-end-vaddr c =
     let x = c.loop-vaddr in
@@ -43,16 +26,6 @@ returns-then-end-vaddr c =
     let n = next x.pool (a.base / 4096) x.vaddr c.clear_entry-span.result c.clear_entry-span.ensures.cleared.1 in
     let past : a.end ≤ after x.pool (a.base / 4096) x.vaddr = omega (arith, n, c.if-end-vaddr.true) in
     c.clear_entry-span.ensures.cleared.0 ∙ sym (cleared_last x.pool (a.base / 4096) x.vaddr a.end (omega arith) past) ∙ x.invariant.2
-
-pub overflow_add-vaddr : goal.overflow_add-vaddr
-overflow_add-vaddr c = omega arith
-
-pub loop-vaddr-smaller : goal.loop-vaddr-smaller
-loop-vaddr-smaller c =
-    let x = c.loop-vaddr in
-    let a = c.args in
-    let n = next x.pool (a.base / 4096) x.vaddr c.clear_entry-span.result c.clear_entry-span.ensures.cleared.1 in
-    omega (arith, n, after_gt x.pool (a.base / 4096) x.vaddr)
 
 pub loop-vaddr-preserved : goal.loop-vaddr-preserved
 loop-vaddr-preserved c =
@@ -66,9 +39,6 @@ loop-vaddr-preserved c =
           ∙ sym (cleared_more x.pool (a.base / 4096) x.vaddr a.end (omega arith))
           ∙ x.invariant.2,
     )
-
-pub shape_of-pool : goal.shape_of-pool
-shape_of-pool c = c.loop-vaddr.invariant.1
 
 pub returns : goal.returns
 returns c =

@@ -1,10 +1,10 @@
 -- `clear_entry`: the leaf's word becomes 0; a hole stays.
 use Prim.Native.Nat.{ℕ, ◌/◌}
-use mathlib.Core.Path.{◌≡◌, refl, sym, ◌∙◌, subst}
+use mathlib.Core.Path.{◌≡◌, sym, ◌∙◌, subst}
 use mathlib.Core.List.{List}
 use Rattle.form.specs.Form.{Good}
 use Rattle.walk.specs.Walk.{found}
-use Rattle.walk.specs.declared.Walk.TheVariants.{Leaf, Open}
+use Rattle.walk.specs.declared.Walk.TheVariants.{Leaf}
 use Rattle.walk.proofs.Found.{leaf_in, unused}
 use Rattle.table_unmap_cont.specs.UnmapCont.{emptied}
 use Rattle.table_unmap_cont.proofs.Clears.{empty}
@@ -23,8 +23,3 @@ returns-in-Leaf c =
     let a = c.args in
     let q : found a.pool.now (a.base / 4096) a.vaddr ≡ Leaf c.in-Leaf.leaf = sym c.get_entry.ensures ∙ c.in-Leaf.is in
     let w : c.set_entry.new.pool ≡ emptied a.pool.now (a.base / 4096) a.vaddr = rw q c.set_entry.ensures in record { cleared = (w, rw q c.size.ensures); good = subst (λ (p : List ℕ). Good p a.base a.used) (sym w) (empty a.pool.now a.base a.used c.requires a.vaddr).good }
-
-pub returns-in-Open : goal.returns-in-Open
-returns-in-Open c =
-    let a = c.args in
-    let q : found a.pool.now (a.base / 4096) a.vaddr ≡ Open c.in-Open.spot = sym c.get_entry.ensures ∙ c.in-Open.is in record { cleared = (rw q refl, rw q c.span_at.ensures); good = c.requires }

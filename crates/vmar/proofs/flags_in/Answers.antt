@@ -1,27 +1,14 @@
--- `flags_in`: 11, 5, the lookup.
-use mathlib.Core.Path.{sym, ◌∙◌, subst}
-use borrow.Author.Tests.{eq-eqb, ne_eqb, lt-ltb, le-ltb}
-use Rattle.space.specs.Passes.{LiveIn}
-use Rattle.vmar_offset.proofs.Found.{slot_live}
-use Rattle.vmar.proofs.Parts.{flags_unissued, flags_dead, flags_alive}
+-- `flags_in`: 5, or the lookup in a live region.
+use Rattle.std.proofs.Common.{sym, ◌∙◌, rules}
+use Rattle.vmar_offset.proofs.Found.{slot_none, slot_is}
+use Rattle.vmar.specs.Calls.{flags_call}
 use Rattle.vmar.proofs.flags_in.Goals as goal
 
-pub returns-then-s-id : goal.returns-then-s-id
-returns-then-s-id c = flags_unissued c.args.s c.args.flags.now c.args.id c.args.vaddr (le-ltb _ _ c.if-s-id.true)
-
-pub returns-then-r-eq-NO_REGION : goal.returns-then-r-eq-NO_REGION
-returns-then-r-eq-NO_REGION c =
-    let a = c.args in
-    flags_dead a.s a.flags.now a.id a.vaddr (lt-ltb _ _ c.if-s-id.false) (eq-eqb _ _ (sym c.slot_of-r.ensures ∙ c.if-r-eq-NO_REGION.true))
+pub returns-in_err-r : goal.returns-in_err-r
+unfolding flags_call
+returns-in_err-r c = let gone = slot_none c.args.s.now c.args.id (sym c.slot_of.ensures ∙ c.in_err-r.ensures.ok_part) in search (rules, gone)
 
 pub get_mapping_flags-requires : goal.get_mapping_flags-requires
 get_mapping_flags-requires c =
-    let a = c.args in
-    let pre = c.requires in
-    let q = slot_live a.s a.id (λ e. c.if-r-eq-NO_REGION.false (c.slot_of-r.ensures ∙ e)) in
-    (subst (LiveIn a.s) (sym c.slot_of-r.ensures) (record { slot = q.0; live = q.1; flags = a.flags.now; passes = pre }), pre)
-
-pub returns : goal.returns
-returns c =
-    let a = c.args in
-    c.get_mapping_flags.ensures ∙ flags_alive a.s a.flags.now a.id a.vaddr _ (sym c.slot_of-r.ensures) (lt-ltb _ _ c.if-s-id.false) (ne_eqb _ _ (λ e. c.if-r-eq-NO_REGION.false (c.slot_of-r.ensures ∙ e)))
+    let found = slot_is c.args.s.now c.args.id c.in_ok-r.r (sym c.slot_of.ensures ∙ c.in_ok-r.ensures.ok_part) in
+    (record { slot = found.slot; live = found.live; flags = c.args.flags.now; passes = c.requires }, c.requires)

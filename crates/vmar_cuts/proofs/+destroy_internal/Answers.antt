@@ -1,75 +1,60 @@
-use Prim.Native.Nat.{◌/◌}
-use mathlib.Core.Path.{refl, sym, ◌∙◌, ap}
-use mathlib.Core.List.{List}
-use native.Mathlib.Omega.{arith}
-use borrow.Author.Rules.{rules}
-use borrow.Author.Tests.{not-true, not-false}
-use Rattle.space.proofs.Facts.{region_place_lem}
+use Rattle.std.proofs.Common.{◌/◌, List, refl, sym, ◌∙◌, ap, arith, rules}
+use Rattle.std.proofs.lemmas.List.{length-take}
+use Rattle.vmar_doom.proofs.Places.{below_count, listed, region_below}
 use Rattle.table_cuts.specs.Cuts.{Cut, cut_all}
 use Rattle.table_cuts.proofs.Append.{cut_none}
 use Rattle.vmar_cuts.proofs.Collects.{cuts_more, cuts_end}
-use Rattle.vmar_cuts.proofs.Children.{everything, below, no_depth, all_left, cut_no_child, cut_child}
+use Rattle.vmar_cuts.proofs.Children.{below, no_depth, all_left, cut_no_child, cut_child}
 use Rattle.vmar_cuts.proofs.+destroy_internal.Goals as goal
 
-pub returns-then-depth-eq0 : goal.returns-then-depth-eq0
-returns-then-depth-eq0 t c = record { value = sym (ap (λ (xs : List Cut). cut_all (c.args.base / 4096) xs (record { pool = c.args.pool.now; used = c.args.used })) (no_depth c.args.s c.args.depth c.args.r c.args.begin c.args.end c.if-depth-eq0.true) ∙ cut_none _ _); stays_good = c.requires.good }
+pub returns-then-depth-eq0-clause-value : goal.returns-then-depth-eq0-clause-value
+returns-then-depth-eq0-clause-value t c =
+    let a = c.args in
+    sym (ap (λ (xs : List Cut). cut_all (a.base / 4096) xs (record { pool = a.pool.now; used = a.used.now })) (no_depth a.s.now a.depth a.r a.span.begin a.span.end c.if-depth-eq0.true) ∙ cut_none _ _)
 
-pub loop-k-init : goal.loop-k-init
-loop-k-init t c = (
-  omega arith,
-  c.requires.passing.0.passes.regions.room,
-  c.requires.good,
-  refl,
-  ap (λ (xs : List Cut). cut_all (c.args.base / 4096) xs (record { pool = c.args.pool.now; used = c.args.used })) (all_left c.args.s c.args.depth c.args.r c.args.begin c.args.end c.if-depth-eq0.false),
-)
-
-pub offset_bounds-s-slot : goal.offset_bounds-s-slot
-offset_bounds-s-slot t c =
-    let pre = c.requires in
-    record { fits = omega (arith, (region_place_lem pre.passing.0.passes c.loop-k.k c.loop-k-test.true).0) }
+pub loop-slot-init : goal.loop-slot-init
+loop-slot-init t c = let a = c.args in record {
+  good = c.requires.good;
+  long = refl;
+  left = ap (λ (xs : List Cut). cut_all (a.base / 4096) xs (record { pool = a.pool.now; used = a.used.now })) (all_left a.s.now a.depth a.r a.span.begin a.span.end c.if-depth-eq0.false);
+}
 
 pub bounds-s-slot : goal.bounds-s-slot
-bounds-s-slot t c =
-    let pre = c.requires in
-    (region_place_lem pre.passing.0.passes c.loop-k.k c.loop-k-test.true).0
+bounds-s-slot t c = region_below c.requires.passing.passes c.loop-slot.slot-index c.loop-slot-test.true
 
-pub is_child_in-requires : goal.is_child_in-requires
-is_child_in-requires t c = c.requires.passing.1.order
+pub loop-slot-preserved-then-not-is_child_in : goal.loop-slot-preserved-then-not-is_child_in
+loop-slot-preserved-then-not-is_child_in t c =
+    let a = c.args in
+    let s = a.s.now in
+    let k = c.loop-slot.slot-index in
+    let here = listed s.regcount s.reglist k c.loop-slot-test.true in
+    let child = rw here at c.is_child_in.ensures in
+    record {
+      good = c.loop-slot.invariant.good;
+      long = c.loop-slot.invariant.long;
+      left = cuts_more (below s a.depth a.r a.span.begin a.span.end) k s.regcount _ _ _ (below_count s.regcount s.reglist k c.loop-slot-test.true)
+          (cut_no_child s a.depth a.r a.span.begin a.span.end k _ _ (sym child ∙ c.if-not-is_child_in.true)) ∙ c.loop-slot.invariant.left;
+    }
 
-pub loop-k-preserved-then-not-is_child_in : goal.loop-k-preserved-then-not-is_child_in
-loop-k-preserved-then-not-is_child_in t c =
-    let l = c.loop-k in
-    let m = c.is_child_in in (
-      omega arith,
-      l.invariant.1,
-      l.invariant.2,
-      l.invariant.3,
-      cuts_more (below c.args.s c.args.depth c.args.r c.args.begin c.args.end) l.k c.args.s.regcount _ _ _ c.loop-k-test.true
-          (cut_no_child c.args.s c.args.depth c.args.r c.args.begin c.args.end l.k _ _ (sym m.ensures ∙ not-true m.result c.if-not-is_child_in.true-raw)) ∙ l.invariant.4,
-    )
+pub loop-slot-preserved : goal.loop-slot-preserved
+loop-slot-preserved t c =
+    let a = c.args in
+    let s = a.s.now in
+    let k = c.loop-slot.slot-index in
+    let here = listed s.regcount s.reglist k c.loop-slot-test.true in
+    let child = rw here at c.is_child_in.ensures in
+    let children = rw here at c.destroy_internal.ensures.value in
+    let parts = rw here at c.cut_parts.ensures.value in
+    record {
+      good = c.cut_parts.ensures.stays_good;
+      long = search rules;
+      left = cuts_more (below s a.depth a.r a.span.begin a.span.end) k s.regcount _ _ _ (below_count s.regcount s.reglist k c.loop-slot-test.true)
+          (cut_child s a.depth a.r a.span.begin a.span.end k _ _ _ _ (sym child ∙ c.if-not-is_child_in.false) children parts) ∙ c.loop-slot.invariant.left;
+    }
 
-pub cut_parts-in_use-requires : goal.cut_parts-in_use-requires
-cut_parts-in_use-requires t c =
-    record { good = c.destroy_internal-in_use.ensures.stays_good; passing = (c.requires.passing.0, everything) }
-
-pub loop-k-preserved : goal.loop-k-preserved
-loop-k-preserved t c =
-    let l = c.loop-k in
-    let m = c.is_child_in in (
-      omega arith,
-      l.invariant.1,
-      c.cut_parts-in_use.ensures.stays_good,
-      search rules,
-      cuts_more (below c.args.s c.args.depth c.args.r c.args.begin c.args.end) l.k c.args.s.regcount _ _ _ c.loop-k-test.true
-          (cut_child c.args.s c.args.depth c.args.r c.args.begin c.args.end l.k _ _ _ _ (sym m.ensures ∙ not-false m.result c.if-not-is_child_in.false-raw) c.destroy_internal-in_use.ensures.value c.cut_parts-in_use.ensures.value) ∙ l.invariant.4,
-    )
-
-pub shape_of-pool : goal.shape_of-pool
-shape_of-pool t c = c.loop-k.invariant.3
-
-pub returns : goal.returns
-returns t c =
-    let l = c.loop-k in record { value = cuts_end (below c.args.s c.args.depth c.args.r c.args.begin c.args.end) l.k c.args.s.regcount _ _ c.loop-k-test.false ∙ l.invariant.4; stays_good = l.invariant.2 }
-
-pub destroy_internal-in_use-requires : goal.destroy_internal-in_use-requires
-destroy_internal-in_use-requires t c = (omega (arith, c.decreases, c.if-depth-eq0.false), (c.loop-k.invariant.2, (c.requires.passing.0, everything)))
+pub returns-clause-value : goal.returns-clause-value
+returns-clause-value t c =
+    let a = c.args in
+    let s = a.s.now in
+    let end = c.loop-slot-test.false in
+    cuts_end (below s a.depth a.r a.span.begin a.span.end) c.loop-slot.slot-index s.regcount _ _ (omega (arith, length-take s.regcount s.reglist, c.requires.passing.passes.regions.room)) ∙ c.loop-slot.invariant.left

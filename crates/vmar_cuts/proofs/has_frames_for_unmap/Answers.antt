@@ -6,4 +6,4 @@ use Rattle.vmar_cuts.proofs.has_frames_for_unmap.Goals as goal
 pub returns : goal.returns
 returns c =
     let a = c.args in
-    both_room (parts a.s a.r a.begin a.end) (children a.s 32 a.r a.begin a.end) a.free _ _ c.room_in_parts-own.ensures c.room_in_children-left.ensures
+    both_room (parts a.s.now a.r a.span.begin a.span.end) (children a.s.now 32 a.r a.span.begin a.span.end) a.free _ _ c.room_in_parts-own.ensures c.room_in_children.ensures

@@ -1,33 +1,20 @@
--- `room_in_part`: the tests of `part_of`, and whether the part is empty.
-use mathlib.Core.Path.{sym, ◌∙◌}
-use native.Mathlib.Omega.{arith}
-use borrow.Author.Tests.{not-true, not-false}
-use Rattle.vmar_cuts.proofs.Parts.{fits_end, count_passed, count_empty, count_some}
+-- `room_in_part`: whether there is a part, and whether it is empty.
+use Rattle.std.proofs.Common.{ap, arith}
+use Rattle.table_cuts.specs.Cuts.{non_empty}
+use Rattle.table_cuts.proofs.Append.{count_none}
+use Rattle.vmar_cuts.proofs.Parts.{count_empty, count_some}
 use Rattle.vmar_cuts.proofs.room_in_part.Goals as goal
 
-pub returns-then-not-mapping_meets : goal.returns-then-not-mapping_meets
-returns-then-not-mapping_meets c =
-    let m = c.mapping_meets in
-    omega (arith, count_passed c.args.m c.args.r c.args.begin c.args.end (sym m.ensures ∙ not-true m.result c.if-not-mapping_meets.true-raw))
+pub returns-in-Some : goal.returns-in-Some
+returns-in-Some c =
+    let a = c.args in
+    let s = c.saturating_sub.ensures in
+    omega (arith, count_some a.m a.r a.span.begin a.span.end c.in-Some.part c.in-Some.ensures.value c.if-part-ne0.true)
 
-pub overflow_add-m : goal.overflow_add-m
-overflow_add-m c =
-    record { fits = fits_end c.args.m c.requires.0 }
+pub returns-in_default : goal.returns-in_default
+returns-in_default c =
+    let a = c.args in
+    omega (arith, count_empty a.m a.r a.span.begin a.span.end c.in-Some.part c.in-Some.ensures.value c.if-part-ne0.false)
 
-pub returns-then-to-from : goal.returns-then-to-from
-returns-then-to-from c =
-    let m = c.mapping_meets in
-    omega (
-      arith,
-      count_empty c.args.m c.args.r c.args.begin c.args.end _ _ (sym m.ensures ∙ not-false m.result c.if-not-mapping_meets.false-raw)
-          c.larger-from.ensures c.smaller-to.ensures c.if-to-from.true,
-    )
-
-pub returns : goal.returns
-returns c =
-    let m = c.mapping_meets in
-    omega (
-      arith,
-      count_some c.args.m c.args.r c.args.begin c.args.end _ _ (sym m.ensures ∙ not-false m.result c.if-not-mapping_meets.false-raw)
-          c.larger-from.ensures c.smaller-to.ensures c.if-to-from.false,
-    )
+pub returns-in_default-2 : goal.returns-in_default-2
+returns-in_default-2 c = let e = ap non_empty c.in_default.ensures.value in omega (arith, count_none)

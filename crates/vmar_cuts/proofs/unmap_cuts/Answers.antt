@@ -3,6 +3,7 @@ use Rattle.vmar_cuts.specs.Cuts.{parts, children}
 use Rattle.vmar_cuts.proofs.Collects.{both_cut}
 use Rattle.vmar_cuts.proofs.unmap_cuts.Goals as goal
 
-pub returns : goal.returns
-returns c =
-    let a = c.args in record { value = both_cut _ (parts a.s a.r a.begin a.end) (children a.s 32 a.r a.begin a.end) _ _ _ c.cut_parts-own.ensures.value c.destroy_internal.ensures.value; stays_good = c.destroy_internal.ensures.stays_good }
+pub returns-clause-value : goal.returns-clause-value
+returns-clause-value c =
+    let a = c.args in
+    both_cut _ (parts a.s.now a.r a.span.begin a.span.end) (children a.s.now 32 a.r a.span.begin a.span.end) _ _ _ c.cut_parts.ensures.value c.destroy_internal.ensures.value

@@ -1,76 +1,36 @@
-use mathlib.Core.Path.{◌≡◌, sym, ◌∙◌, ap}
-use mathlib.Core.Bool.{Bool, ◌||◌, false}
-use mathlib.Core.List.{List}
-use native.Mathlib.Omega.{arith}
-use lib.ListN.{length, get_or, set}
+use Rattle.std.proofs.Common.{◌≡◌, Bool, ◌||◌, true, false, get_or, sym, ◌∙◌}
 use Rattle.space.specs.Space.{region_at, region_place}
-use Rattle.space.proofs.Facts.{region_place_lem}
 use Rattle.vmar_doom.specs.Doomed.{is_child_in, marked_to}
-use Rattle.vmar_doom.proofs.Dooms.{no_marks, more_marked, marked_length}
+use Rattle.vmar_doom.proofs.Dooms.{no_marks, more_marked}
+use Rattle.vmar_doom.proofs.Places.{listed, region_below}
 use Rattle.vmar_doom.proofs.doomed.Goals as goal
+use Rattle.vmar_doom.proofs.doomed.Goals.{then-goes, else-goes}
 
-pub loop-k-init : goal.loop-k-init
-loop-k-init c = let a = c.args in (omega arith, no_marks a.s a.r a.begin a.end)
+or_true : (x y m : Bool) → m ≡ x → x ≡ true → m ≡ (x || y)
+or_true x y m e h = rw h (e ∙ h)
 
-pub bounds-list-k : goal.bounds-list-k
-bounds-list-k c =
-    let p = c.requires.0.passes in
-    let z = p.regions.room in
-    omega arith
+or_false : (x y m : Bool) → m ≡ y → x ≡ false → m ≡ (x || y)
+or_false x y m e h = rw h e
 
-pub offset_bounds-s-slot : goal.offset_bounds-s-slot
-offset_bounds-s-slot c =
-    let p = c.requires.0.passes in
-    let loop = c.loop-k in
-    let at = (region_place_lem p loop.k c.loop-k-test.true).0 in
-    record { fits = omega arith }
+pub loop-slot-init : goal.loop-slot-init
+loop-slot-init c = let a = c.args in no_marks a.s.now a.r a.begin a.end
 
 pub bounds-s-slot : goal.bounds-s-slot
-bounds-s-slot c =
-    let p = c.requires.0.passes in
-    let loop = c.loop-k in
-    (region_place_lem p loop.k c.loop-k-test.true).0
+bounds-s-slot c = region_below c.requires.0.passes c.loop-slot.slot-index c.loop-slot-test.true
 
-pub is_child_in-goes-requires : goal.is_child_in-goes-requires
-is_child_in-goes-requires c = c.requires.1
-
-pub slice_bounds-mark_of-end : goal.slice_bounds-mark_of-end
-slice_bounds-mark_of-end c =
+pub loop-slot-preserved : goal.loop-slot-preserved
+loop-slot-preserved c =
     let a = c.args in
-    let loop = c.loop-k in
-    sym (ap length loop.invariant.1 ∙ marked_length a.s a.r a.begin a.end loop.k)
-
-pub mark_of-up-requires : goal.mark_of-up-requires
-mark_of-up-requires c =
-    let a = c.args in
-    let loop = c.loop-k in
-    ap length loop.invariant.1 ∙ marked_length a.s a.r a.begin a.end loop.k
-
-pub bounds-marks-slot : goal.bounds-marks-slot
-bounds-marks-slot c =
-    let p = c.requires.0.passes in
-    let loop = c.loop-k in
-    (region_place_lem p loop.k c.loop-k-test.true).0
-
-pub loop-k-preserved : goal.loop-k-preserved
-loop-k-preserved c =
-    let a = c.args in
-    let loop = c.loop-k in
-    let i = region_place a.s loop.k in
-    let goes = c.is_child_in-goes in
-    let up = c.mark_of-up in (
-      omega arith,
-      ap (λ (m : List Bool). set m i (goes.result || up.result)) loop.invariant.1
-          ∙ ap (λ (t : Bool). set (marked_to a.s a.r a.begin a.end loop.k) i (t || up.result)) goes.ensures
-          ∙ ap (λ (t : Bool). set (marked_to a.s a.r a.begin a.end loop.k) i (is_child_in (region_at a.s i) a.r a.begin a.end || t))
-          (up.ensures ∙ ap (λ (m : List Bool). get_or m (region_at a.s i).parent false) loop.invariant.1)
-          ∙ more_marked a.s a.r a.begin a.end loop.k,
-    )
-
-pub returns : goal.returns
-returns c =
-    let a = c.args in
-    let loop = c.loop-k in
-    let most = loop.invariant.0 in
-    let all : loop.k ≡ a.s.regcount = omega (arith, c.loop-k-test.false) in
-    loop.invariant.1 ∙ ap (marked_to a.s a.r a.begin a.end) all
+    let s = a.s.now in
+    let k = c.loop-slot.slot-index in
+    let i = region_place s k in
+    let here = listed s.regcount s.reglist k c.loop-slot-test.true in
+    let goes = rw here at c.is_child_in-goes.ensures in
+    let marked = c.loop-slot.invariant in
+    let mark : c.if-goes.marks ≡ (is_child_in (region_at s i) a.r a.begin a.end || get_or (marked_to s a.r a.begin a.end k) (region_at s i).parent false) =
+    elim c.if-goes.branch [
+      | then-goes w ↦ or_true _ _ _ (w.marks-is ∙ goes) (sym goes ∙ w.if-goes.true)
+      | else-goes w ↦ or_false _ _ _ (w.marks-is ∙ rw (here, marked) at w.mark_of.ensures) (sym goes ∙ w.if-goes.false)
+    ]
+    in
+    rw (here, mark, marked) (more_marked s a.r a.begin a.end k)

@@ -1,54 +1,80 @@
--- `map`: 11, unknown flags, the first tests, then the region.
-use mathlib.Core.Path.{sym, ◌∙◌, ap}
-use borrow.Author.Tests.{lt-ltb, le-ltb, not-true, not-false}
-use Rattle.vmar_map.specs.Map.{after_tests}
-use Rattle.vmar_map.proofs.Maps.{fine_length, never_issued, unknown_permissions, unknown_flags, known_all}
+-- `map`: 11, unknown flags, the first tests, 5, then where it goes.
+use Rattle.std.proofs.Common.{◌≡◌, None, Some, Ok, Err, sym, ◌∙◌, ap, lt-ltb, rules}
+use Rattle.refusal.specs.declared.Refusal.TheVariants.{BadState}
+use Rattle.scan.specs.Scan.{below}
+use Rattle.space.specs.Passes.{LiveIn}
+use Rattle.vmar_offset.specs.Offset.{slot_of, determine_offset}
+use Rattle.vmar_offset.proofs.Found.{slot_is, slot_none, determined_free, free_fits}
+use Rattle.vmar_map.specs.Map.{tested, settled, after_tests}
+use Rattle.vmar_map.proofs.Maps.{fine_length, known_all, dead, alive}
 use Rattle.vmar_map.proofs.map.Goals as goal
 
-pub returns-then-s-id : goal.returns-then-s-id
-returns-then-s-id c = never_issued c.args.s c.args.pages.now c.args.id c.args.offset c.args.vmo.id c.args.vmo_offset c.args.len c.args.permissions.0 c.args.flags.0 c.args.vmo.len c.args.allow_faults (le-ltb _ _ c.if-s-id.true)
-
-pub returns-then-not-is_known : goal.returns-then-not-is_known
-returns-then-not-is_known c =
+pub returns-in_err-test_args : goal.returns-in_err-test_args
+returns-in_err-test_args c =
     let a = c.args in
-    unknown_permissions a.s a.pages.now a.id a.offset a.vmo.id a.vmo_offset a.len a.permissions.0 a.flags.0 a.vmo.len a.allow_faults (lt-ltb _ _ c.if-s-id.false) (sym c.is_known.ensures ∙ not-true c.is_known.result c.if-not-is_known.true-raw)
+    let m = a.m in
+    let e : c.from_residual.result ≡ Err c.in_err-test_args.field-0.0 = search rules in
+    let t : tested m.vmo.len m.vmo_offset m.len m.permissions.0 m.flags.0 a.allow_faults ≡ Err c.in_err-test_args.field-0.0 = search rules in
+    rw e (ap (after_tests a.s.now a.pages.now a.id a.offset m.vmo.id m.vmo_offset m.len m.permissions.0 m.flags.0) (sym t)
+    ∙ known_all a.s.now a.pages.now a.id a.offset m.vmo.id m.vmo_offset m.len m.permissions.0 m.flags.0 m.vmo.len a.allow_faults (lt-ltb _ _ c.if-s-id.false) (sym c.is_known.ensures ∙ c.if-not-is_known.false) (sym c.is_known-2.ensures ∙ c.if-not-is_known-2.false))
 
-pub returns-then-not-is_known-2 : goal.returns-then-not-is_known-2
-returns-then-not-is_known-2 c =
+pub returns-in_err-r : goal.returns-in_err-r
+returns-in_err-r c =
     let a = c.args in
-    let if1 = c.if-s-id in
-    unknown_flags a.s a.pages.now a.id a.offset a.vmo.id a.vmo_offset a.len a.permissions.0 a.flags.0 a.vmo.len a.allow_faults (lt-ltb _ _ if1.false) (sym c.is_known.ensures ∙ not-false c.is_known.result c.if-not-is_known.false-raw) (sym c.is_known-2.ensures ∙ not-true c.is_known-2.result c.if-not-is_known-2.true-raw)
+    let m = a.m in
+    let none : below 32 (slot_of a.s.now a.id) ≡ None = search rules in
+    let e : c.from_residual-in_err-r.result ≡ Err BadState = search rules in
+    let t : tested m.vmo.len m.vmo_offset m.len m.permissions.0 m.flags.0 a.allow_faults ≡ Ok tt = search rules in
+    rw e (dead a.s.now a.pages.now a.id a.offset m.vmo.id m.vmo_offset m.len m.permissions.0 m.flags.0 (slot_none a.s.now a.id none)
+    ∙ ap (after_tests a.s.now a.pages.now a.id a.offset m.vmo.id m.vmo_offset m.len m.permissions.0 m.flags.0) (sym t)
+    ∙ known_all a.s.now a.pages.now a.id a.offset m.vmo.id m.vmo_offset m.len m.permissions.0 m.flags.0 m.vmo.len a.allow_faults (lt-ltb _ _ c.if-s-id.false) (sym c.is_known.ensures ∙ c.if-not-is_known.false) (sym c.is_known-2.ensures ∙ c.if-not-is_known-2.false))
 
-pub map_in-requires : goal.map_in-requires
-map_in-requires c =
-    let pre = c.requires in
-    let a = c.args in
-    let is-known2 = c.is_known-2 in
-    let if3 = c.if-not-is_known-2 in
-    (pre, fine_length a.vmo.len a.vmo_offset a.len a.permissions.0 a.flags.0 a.allow_faults (sym c.test_args.ensures ∙ c.in-Fine.is), (sym is-known2.ensures ∙ not-false is-known2.result if3.false-raw))
+pub determine_offset-requires : goal.determine_offset-requires
+determine_offset-requires c =
+    let some : below 32 (slot_of c.args.s.now c.args.id) ≡ Some c.in_ok-r.r = search rules in
+    let at = slot_is c.args.s.now c.args.id c.in_ok-r.r some in
+    record { slot = at.slot; live = at.live; flags = c.args.pages.now; passes = c.requires }
 
-pub returns-in-Fine : goal.returns-in-Fine
-returns-in-Fine c =
+pub returns-in_err-at : goal.returns-in_err-at
+returns-in_err-at c =
     let a = c.args in
-    let test-args = c.test_args in
-    let if1 = c.if-s-id in
-    let is_Known = c.is_known in
-    let if2 = c.if-not-is_known in
-    let is-known2 = c.is_known-2 in
-    let if3 = c.if-not-is_known-2 in
-    c.map_in.ensures
-    ∙ sym (ap (after_tests a.s a.pages.now a.id a.offset a.vmo.id a.vmo_offset a.len a.permissions.0 a.flags.0) c.in-Fine.is)
-    ∙ ap (after_tests a.s a.pages.now a.id a.offset a.vmo.id a.vmo_offset a.len a.permissions.0 a.flags.0) test-args.ensures
-    ∙ known_all a.s a.pages.now a.id a.offset a.vmo.id a.vmo_offset a.len a.permissions.0 a.flags.0 a.vmo.len a.allow_faults (lt-ltb _ _ if1.false) (sym is_Known.ensures ∙ not-false is_Known.result if2.false-raw) (sym is-known2.ensures ∙ not-false is-known2.result if3.false-raw)
+    let m = a.m in
+    let some : below 32 (slot_of a.s.now a.id) ≡ Some c.in_ok-r.r = search rules in
+    let at = slot_is a.s.now a.id c.in_ok-r.r some in
+    let e : c.from_residual-in_err-at.result ≡ Err c.in_err-at.field-0.0 = search rules in
+    let d : determine_offset a.s.now c.in_ok-r.r a.offset m.len 4096 ≡ Err c.in_err-at.field-0.0 = search rules in
+    let t : tested m.vmo.len m.vmo_offset m.len m.permissions.0 m.flags.0 a.allow_faults ≡ Ok tt = search rules in
+    rw e (ap (settled a.s.now a.pages.now c.in_ok-r.r m.vmo.id m.vmo_offset m.len m.permissions.0 m.flags.0) (sym d)
+    ∙ alive a.s.now a.pages.now a.id a.offset m.vmo.id m.vmo_offset m.len m.permissions.0 m.flags.0 c.in_ok-r.r at.at at.is
+    ∙ ap (after_tests a.s.now a.pages.now a.id a.offset m.vmo.id m.vmo_offset m.len m.permissions.0 m.flags.0) (sym t)
+    ∙ known_all a.s.now a.pages.now a.id a.offset m.vmo.id m.vmo_offset m.len m.permissions.0 m.flags.0 m.vmo.len a.allow_faults (lt-ltb _ _ c.if-s-id.false) (sym c.is_known.ensures ∙ c.if-not-is_known.false) (sym c.is_known-2.ensures ∙ c.if-not-is_known-2.false))
 
-pub returns-in-Refused : goal.returns-in-Refused
-returns-in-Refused c =
+pub place-requires : goal.place-requires
+place-requires c =
     let a = c.args in
-    let if1 = c.if-s-id in
-    let is_Known = c.is_known in
-    let if2 = c.if-not-is_known in
-    let is-known2 = c.is_known-2 in
-    let if3 = c.if-not-is_known-2 in
-    sym (ap (after_tests a.s a.pages.now a.id a.offset a.vmo.id a.vmo_offset a.len a.permissions.0 a.flags.0) c.in-Refused.is)
-    ∙ ap (after_tests a.s a.pages.now a.id a.offset a.vmo.id a.vmo_offset a.len a.permissions.0 a.flags.0) c.test_args.ensures
-    ∙ known_all a.s a.pages.now a.id a.offset a.vmo.id a.vmo_offset a.len a.permissions.0 a.flags.0 a.vmo.len a.allow_faults (lt-ltb _ _ if1.false) (sym is_Known.ensures ∙ not-false is_Known.result if2.false-raw) (sym is-known2.ensures ∙ not-false is-known2.result if3.false-raw)
+    let m = a.m in
+    let some : below 32 (slot_of a.s.now a.id) ≡ Some c.in_ok-r.r = search rules in
+    let at = slot_is a.s.now a.id c.in_ok-r.r some in
+    let live : LiveIn a.s.now c.in_ok-r.r = record { slot = at.slot; live = at.live; flags = a.pages.now; passes = c.requires } in
+    let d : determine_offset a.s.now c.in_ok-r.r a.offset m.len 4096 ≡ Ok c.in_ok-at.at = search rules in
+    let t : tested m.vmo.len m.vmo_offset m.len m.permissions.0 m.flags.0 a.allow_faults ≡ Ok tt = search rules in (
+      live,
+      free_fits a.s.now c.in_ok-r.r _ _ (determined_free a.s.now c.in_ok-r.r m.len 4096 a.offset c.in_ok-at.at d),
+      fine_length m.vmo.len m.vmo_offset m.len m.permissions.0 m.flags.0 a.allow_faults t,
+      sym c.is_known-2.ensures ∙ c.if-not-is_known-2.false,
+      c.requires.lent,
+    )
+
+pub returns : goal.returns
+returns c =
+    let a = c.args in
+    let m = a.m in
+    let some : below 32 (slot_of a.s.now a.id) ≡ Some c.in_ok-r.r = search rules in
+    let at = slot_is a.s.now a.id c.in_ok-r.r some in
+    let d : determine_offset a.s.now c.in_ok-r.r a.offset m.len 4096 ≡ Ok c.in_ok-at.at = search rules in
+    let t : tested m.vmo.len m.vmo_offset m.len m.permissions.0 m.flags.0 a.allow_faults ≡ Ok tt = search rules in
+    c.place.ensures
+    ∙ ap (settled a.s.now a.pages.now c.in_ok-r.r m.vmo.id m.vmo_offset m.len m.permissions.0 m.flags.0) (sym d)
+    ∙ alive a.s.now a.pages.now a.id a.offset m.vmo.id m.vmo_offset m.len m.permissions.0 m.flags.0 c.in_ok-r.r at.at at.is
+    ∙ ap (after_tests a.s.now a.pages.now a.id a.offset m.vmo.id m.vmo_offset m.len m.permissions.0 m.flags.0) (sym t)
+    ∙ known_all a.s.now a.pages.now a.id a.offset m.vmo.id m.vmo_offset m.len m.permissions.0 m.flags.0 m.vmo.len a.allow_faults (lt-ltb _ _ c.if-s-id.false) (sym c.is_known.ensures ∙ c.if-not-is_known.false) (sym c.is_known-2.ensures ∙ c.if-not-is_known-2.false)

@@ -1,23 +1,13 @@
-use mathlib.Core.Path.{refl, sym, ◌∙◌}
-use native.Mathlib.Omega.{arith}
-use Rattle.scan.proofs.Scans.{first_here, first_later, first_none}
-use Rattle.vmar_offset.specs.Offset.{is_free_mapping}
+use Rattle.std.proofs.Common.{rules, not}
+use Rattle.std.proofs.lemmas.Iterator.{YieldsList-from_slice}
+use Rattle.std.proofs.lemmas.Iterator.Search.{position_from_yields_List}
+use Rattle.scan.proofs.Found.{position_scan}
+use Rattle.space.specs.Space.{blank_mapping}
+use Rattle.space.specs.declared.Mapping.{Mapping}
 use Rattle.vmar_offset.proofs.free_mapping.Goals as goal
 
-pub loop-i-init : goal.loop-i-init
-loop-i-init c = (omega arith, refl)
-
-pub returns-then-not-m : goal.returns-then-not-m
-returns-then-not-m c =
-    let loop = c.loop-i in
-    let a = c.args in
-    sym (loop.invariant.1 ∙ first_here (is_free_mapping a.s) loop.i 64 c.loop-i-test.true c.if-not-m.true)
-
-pub loop-i-preserved : goal.loop-i-preserved
-loop-i-preserved c =
-    let loop = c.loop-i in
-    let a = c.args in
-    (omega arith, loop.invariant.1 ∙ first_later (is_free_mapping a.s) loop.i 64 c.loop-i-test.true c.if-not-m.false)
-
 pub returns : goal.returns
-returns c = sym (c.loop-i.invariant.1 ∙ first_none (is_free_mapping c.args.s) c.loop-i.i 64 c.loop-i-test.false)
+returns c =
+    let xs = c.args.s.now.mappings in
+    let p = λ (g : Mapping). not g.live in
+    position_scan p xs blank_mapping 64 (search rules) _ (position_from_yields_List p _ _ _ c.position.ensures.ran (YieldsList-from_slice xs cc) (λ x b q k. search rules))

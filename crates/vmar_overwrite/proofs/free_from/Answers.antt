@@ -1,22 +1,19 @@
-use mathlib.Core.Path.{refl, sym, ◌∙◌}
+use Rattle.std.proofs.Common.{not, ◌∙◌, ap, lt-ltb, le-ltb}
 use Rattle.scan.proofs.Scans.{first_here, first_later, first_none}
 use Rattle.vmar_offset.specs.Offset.{is_free_mapping}
 use Rattle.vmar_overwrite.proofs.free_from.Goals as goal
 
-pub loop-i-init : goal.loop-i-init
-loop-i-init c = refl
-
-pub returns-then-not-m : goal.returns-then-not-m
-returns-then-not-m c =
-    let loop = c.loop-i in
-    let a = c.args in
-    sym (loop.invariant ∙ first_here (is_free_mapping a.s) loop.i 64 c.loop-i-test.true c.if-not-m.true)
+pub returns-then-not-s-i : goal.returns-then-not-s-i
+returns-then-not-s-i c =
+    let h = c.loop-i-test.true in
+    let here = c.loop-i.invariant ∙ first_here (is_free_mapping c.args.s.now) c.loop-i.i 64 h (ap not c.if-not-s-i.true) in
+    rw (here, lt-ltb _ _ h)
 
 pub loop-i-preserved : goal.loop-i-preserved
-loop-i-preserved c =
-    let loop = c.loop-i in
-    let a = c.args in
-    loop.invariant ∙ first_later (is_free_mapping a.s) loop.i 64 c.loop-i-test.true c.if-not-m.false
+loop-i-preserved c = c.loop-i.invariant ∙ first_later (is_free_mapping c.args.s.now) c.loop-i.i 64 c.loop-i-test.true (ap not c.if-not-s-i.false)
 
 pub returns : goal.returns
-returns c = sym (c.loop-i.invariant ∙ first_none (is_free_mapping c.args.s) c.loop-i.i 64 c.loop-i-test.false)
+returns c =
+    let h = c.loop-i-test.false in
+    let none = c.loop-i.invariant ∙ first_none (is_free_mapping c.args.s.now) c.loop-i.i 64 h in
+    rw (none, le-ltb _ _ h)

@@ -1,54 +1,19 @@
-use Prim.Native.Nat.{ℕ, ◌+◌}
-use mathlib.Core.Path.{◌≡◌, ◌∙◌, ap}
-use mathlib.Core.List.{List}
-use native.Mathlib.Omega.{arith}
-use lib.Dec.{ltb}
-use lib.ListN.{length, get_or, set}
-use Rattle.paging.specs.Choice.{pick}
-use Rattle.vmar_prune.specs.Piece.{copied}
-use Rattle.vmar_prune.proofs.Parts.{copied_none, copied_more, copied_length, byte_read}
+-- `copy_pages`: what is copied and what is filled.
+use Rattle.std.proofs.Common.{ℕ, ◌≡◌, ◌+◌, ◌-◌, List, replicate, drop, sym, ◌∙◌, ap, arith, rules}
+use Rattle.std.proofs.Math.Seq.{paste}
+use Rattle.std.proofs.lemmas.Slice.{put_mid-paste}
+use Rattle.std.proofs.lemmas.List.{length-replicate}
+use Rattle.vmar_prune.proofs.Parts.{copied_pasted}
 use Rattle.vmar_prune.proofs.copy_pages.Goals as goal
-
-pub loop-j-init : goal.loop-j-init
-loop-j-init c = (omega arith, copied_none _ _ _ _)
-
-pub page_at-b-requires : goal.page_at-b-requires
-page_at-b-requires c =
-    let a = c.args in
-    let pre = c.requires in
-    (ap length c.loop-j.invariant.1 ∙ copied_length a.flags.now a.to a.from a.n c.loop-j.j ∙ pre.0, pre.2)
-
-pub overflow_add-flags : goal.overflow_add-flags
-overflow_add-flags c = let pre = c.requires in let top = pre.1 in record { fits = omega arith }
-
-pub bounds-flags-to : goal.bounds-flags-to
-bounds-flags-to c =
-    let a = c.args in
-    let pre = c.requires in
-    let loop = c.loop-j in
-    let top = pre.1 in
-    let long = ap length loop.invariant.1 ∙ copied_length a.flags.now a.to a.from a.n loop.j ∙ pre.0 in
-    omega arith
-
-pub loop-j-preserved : goal.loop-j-preserved
-loop-j-preserved c =
-    let a = c.args in
-    let pre = c.requires in
-    let loop = c.loop-j in
-    let read = c.page_at-b.ensures ∙ ap (λ (f : List ℕ). pick (ltb loop.j a.n) (get_or f (a.from + loop.j) 0) 0) loop.invariant.1 ∙ byte_read a.flags.now a.to a.from a.n loop.j pre.3 in (
-      omega arith,
-      ap (λ (f : List ℕ). set f (a.to + loop.j) c.page_at-b.result) loop.invariant.1
-          ∙ ap (set (copied a.flags.now a.to a.from a.n loop.j) (a.to + loop.j)) read
-          ∙ copied_more a.flags.now a.to a.from a.n loop.j,
-    )
-
-pub shape_of-flags : goal.shape_of-flags
-shape_of-flags c = let a = c.args in ap length c.loop-j.invariant.1 ∙ copied_length a.flags.now a.to a.from a.n c.loop-j.j
 
 pub returns : goal.returns
 returns c =
     let a = c.args in
-    let loop = c.loop-j in
-    let most = loop.invariant.0 in
-    let all : loop.j ≡ 512 = omega (arith, c.loop-j-test.false) in
-    loop.invariant.1 ∙ ap (copied a.flags.now a.to a.from a.n) all
+    let rest = a.to + 512 - (a.to + a.n) in
+    let zeros : c.fill.new.self ≡ replicate rest 0 = search rules in
+    let few : 512 - a.n ≡ rest = omega arith in
+    let n : a.from + a.n - a.from ≡ a.n = omega arith in
+    let copied : c.copy_within.new.self ≡ paste a.flags.now a.to (drop a.from a.flags.now) a.n = c.copy_within.ensures.after ∙ rw n in
+    put_mid-paste (a.to + a.n) rest c.copy_within.new.self c.fill.new.self (replicate (512 - a.n) 0) (512 - a.n) (zeros ∙ ap (λ (m : ℕ). replicate m 0) (sym few)) few (sym (length-replicate (512 - a.n) 0))
+    ∙ ap (λ (f : List ℕ). paste f (a.to + a.n) (replicate (512 - a.n) 0) (512 - a.n)) copied
+    ∙ copied_pasted a.flags.now a.to a.from a.n (omega arith) (omega arith) (omega arith)

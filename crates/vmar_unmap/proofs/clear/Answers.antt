@@ -1,37 +1,14 @@
--- `clear`: its tests in document 01's order.
-use mathlib.Core.Path.{sym, ◌∙◌, ap, subst}
-use borrow.Author.Tests.{lt-ltb, le-ltb}
-use Rattle.vmar_unmap.specs.Unmap.{State, done}
-use Rattle.vmar_unmap.specs.declared.CutOutcome.{CutOutcome}
-use Rattle.space.specs.Passes.{LiveIn}
-use Rattle.vmar_offset.proofs.Found.{slot_live}
-use Rattle.vmar_unmap.proofs.Calls.{clear_unissued, clear_gone, clear_live}
+-- `clear`: in a live region.
+use Rattle.std.proofs.Common.{sym, ◌∙◌, rules}
+use Rattle.vmar_unmap.specs.Unmap.{cleared_call}
+use Rattle.vmar_offset.proofs.Found.{slot_none, slot_is}
 use Rattle.vmar_unmap.proofs.clear.Goals as goal
 
-pub returns-then-s-id : goal.returns-then-s-id
-returns-then-s-id c =
-    let a = c.args in
-    let st : State = record { space = a.s; flags = a.pages.now; pool = a.pool.now; used = a.used } in
-    ap (λ (x : CutOutcome). done x a.pages.now a.pool.now) c.refuse.ensures
-    ∙ clear_unissued a.base st a.id a.is_itself (le-ltb _ _ c.if-s-id.true)
-
-pub returns-then-r-eq-NO_REGION : goal.returns-then-r-eq-NO_REGION
-returns-then-r-eq-NO_REGION c =
-    let a = c.args in
-    let st : State = record { space = a.s; flags = a.pages.now; pool = a.pool.now; used = a.used } in
-    ap (λ (x : CutOutcome). done x a.pages.now a.pool.now) c.refuse-then-r-eq-NO_REGION.ensures
-    ∙ clear_gone a.base st a.id a.is_itself (lt-ltb _ _ c.if-s-id.false) c.slot_of-r.result c.slot_of-r.ensures c.if-r-eq-NO_REGION.true
+pub returns-in_err-r : goal.returns-in_err-r
+unfolding cleared_call
+returns-in_err-r c = let gone = slot_none c.args.s.now c.args.id (sym c.slot_of.ensures ∙ c.in_err-r.ensures.ok_part) in search (rules, gone)
 
 pub clear_in-requires : goal.clear_in-requires
 clear_in-requires c =
-    let a = c.args in
-    let pre = c.requires in
-    let q = slot_live a.s a.id (λ e. c.if-r-eq-NO_REGION.false (c.slot_of-r.ensures ∙ e)) in
-    (subst (LiveIn a.s) (sym c.slot_of-r.ensures) (record { slot = q.0; live = q.1; flags = a.pages.now; passes = pre.0 }), pre.0, pre.1)
-
-pub returns : goal.returns
-returns c =
-    let a = c.args in
-    let st : State = record { space = a.s; flags = a.pages.now; pool = a.pool.now; used = a.used } in
-    c.clear_in.ensures
-    ∙ clear_live a.base st a.id a.is_itself (lt-ltb _ _ c.if-s-id.false) c.slot_of-r.result c.slot_of-r.ensures c.if-r-eq-NO_REGION.false
+    let found = slot_is c.args.s.now c.args.id c.in_ok-r.r (sym c.slot_of.ensures ∙ c.in_ok-r.ensures.ok_part) in
+    (record { slot = found.slot; live = found.live; flags = c.args.pages.now; passes = c.requires.0 }, c.requires.0, c.requires.1)

@@ -1,9 +1,14 @@
--- `lacks_slot`: only a split needs one.
+-- `lacks_slot`: by the split, then by the free slot.
+use Rattle.std.proofs.Common.{sym, ◌∙◌}
 use Rattle.vmar_unmap.proofs.Calls.{no_split, a_split}
 use Rattle.vmar_unmap.proofs.lacks_slot.Goals as goal
 
-pub returns-then-split_slot-ge-MAPPINGS : goal.returns-then-split_slot-ge-MAPPINGS
-returns-then-split_slot-ge-MAPPINGS c = let a = c.args in no_split a.s a.r a.begin a.end c.split_slot.result c.split_slot.ensures c.if-split_slot-ge-MAPPINGS.true
+pub returns-then-is_some : goal.returns-then-is_some
+returns-then-is_some c =
+    let a = c.args in
+    a_split a.s.now a.r a.begin a.end c.split_slot.result c.split_slot.ensures (sym c.if-is_some.ensures) c.free_mapping.result c.free_mapping.ensures c.is_none.result c.is_none.ensures
 
-pub returns : goal.returns
-returns c = let a = c.args in a_split a.s a.r a.begin a.end c.split_slot.result c.split_slot.ensures c.if-split_slot-ge-MAPPINGS.false c.free_mapping.result c.free_mapping.ensures
+pub returns-else-is_some : goal.returns-else-is_some
+returns-else-is_some c =
+    let a = c.args in
+    c.if-is_some.false ∙ no_split a.s.now a.r a.begin a.end c.split_slot.result c.split_slot.ensures (sym c.if-is_some.ensures)

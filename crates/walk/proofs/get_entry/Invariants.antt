@@ -1,5 +1,5 @@
 -- `get_entry`: the loop stands where the walk of the address does, and stops where it ends.
-use Prim.Native.Nat.{◌/◌}
+use Rattle.std.proofs.Common.{◌/◌}
 use Rattle.walk.proofs.Steps.{Stands}
 use Rattle.walk.proofs.get_entry.Given as goal
 

@@ -1,5 +1,5 @@
 -- `phys_addr`: the mask keeps bits 51 to 12.
-use lib.Bits.{and_high}
+use Rattle.std.proofs.lemmas.Nat.Bits.{and_high}
 use Rattle.x86_64.proofs.vm.phys_addr.Goals as goal
 
 pub returns : goal.returns

@@ -1,9 +1,0 @@
--- `mappings`: the index stays within the slots.
-use Prim.Native.Nat.{◌≤◌, ◌-◌}
-use Rattle.trace_listing.proofs.mappings.Given as goal
-
-abbrev pub invariant-loop-i : goal.invariant-loop-i
-invariant-loop-i g l = l.i ≤ 64
-
-abbrev pub decreases-loop-i : goal.decreases-loop-i
-decreases-loop-i g l = 64 - l.i

@@ -1,9 +1,0 @@
--- `own_mappings`: the index stays within the slots.
-use Prim.Native.Nat.{◌≤◌, ◌-◌}
-use Rattle.trace_listing.proofs.own_mappings.Given as goal
-
-abbrev pub invariant-loop-k : goal.invariant-loop-k
-invariant-loop-k g l = l.k ≤ 64
-
-abbrev pub decreases-loop-k : goal.decreases-loop-k
-decreases-loop-k g l = 64 - l.k

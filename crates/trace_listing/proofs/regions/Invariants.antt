@@ -1,9 +1,0 @@
--- `regions`: the index stays within the slots.
-use Prim.Native.Nat.{◌≤◌, ◌-◌}
-use Rattle.trace_listing.proofs.regions.Given as goal
-
-abbrev pub invariant-loop-i : goal.invariant-loop-i
-invariant-loop-i g l = l.i ≤ 32
-
-abbrev pub decreases-loop-i : goal.decreases-loop-i
-decreases-loop-i g l = 32 - l.i

@@ -1,9 +1,0 @@
--- `tree`: the index stays within the slots.
-use Prim.Native.Nat.{◌≤◌, ◌-◌}
-use Rattle.trace_listing.proofs.tree.Given as goal
-
-abbrev pub invariant-loop-k : goal.invariant-loop-k
-invariant-loop-k g l = l.k ≤ 32
-
-abbrev pub decreases-loop-k : goal.decreases-loop-k
-decreases-loop-k g l = 32 - l.k

@@ -1,9 +1,0 @@
--- `write_words`: the index stays within the words.
-use Rattle.std.proofs.Common.{◌-◌, ◌≤◌, length}
-use Rattle.trace_table.proofs.write_words.Given as goal
-
-abbrev pub invariant-loop-i : goal.invariant-loop-i
-invariant-loop-i g l = l.i ≤ length l.words
-
-abbrev pub decreases-loop-i : goal.decreases-loop-i
-decreases-loop-i g l = length l.words - l.i

@@ -1,0 +1,14 @@
+use Rattle.std.proofs.Common.{rules}
+use Rattle.std.proofs.lemmas.Iterator.{YieldsList-from_slice}
+use Rattle.std.proofs.lemmas.Iterator.Search.{position_from_yields_List}
+use Rattle.scan.proofs.Found.{position_scan}
+use Rattle.space.specs.Space.{blank_mapping}
+use Rattle.space.specs.declared.Mapping.{Mapping}
+use Rattle.vmar_user_range.specs.UserRange.{is_held}
+use Rattle.vmar_user_range.proofs.holder_of.Goals as goal
+
+pub returns : goal.returns
+returns c =
+    let xs = c.args.s.now.mappings in
+    let p = λ (m : Mapping). is_held m c.args.vaddr in
+    position_scan p xs blank_mapping 64 (search rules) _ (position_from_yields_List p _ _ _ c.position.ensures.ran (YieldsList-from_slice xs cc) (λ x b q k. search rules))

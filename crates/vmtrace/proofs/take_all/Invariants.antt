@@ -1,9 +1,0 @@
--- `take_all`: the index stays within the input; each lent slice keeps its length.
-use Rattle.std.proofs.Common.{◌≡◌, ◌-◌, ◌≤◌, length}
-use Rattle.vmtrace.proofs.take_all.Given as goal
-
-abbrev pub invariant-loop-i : goal.invariant-loop-i
-invariant-loop-i g l = (l.i ≤ length l.input) × (length l.pool ≡ length l.initial.pool) × (length l.line ≡ length l.initial.line)
-
-abbrev pub decreases-loop-i : goal.decreases-loop-i
-decreases-loop-i g l = length l.input - l.i
