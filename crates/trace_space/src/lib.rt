@@ -11,7 +11,7 @@ use trace_table::{Pool, finish, write_unanswered};
 use vmar::{AddressSpace, Answer, Changed};
 use vmar_map::Vmo;
 
-// Page flags, and how many of them are lent with calls.
+// Page flags in fixed memory, and how many of them are lent with calls.
 #[derive(Drop)]
 struct Pages {
     flags: [u8; FLAGS],

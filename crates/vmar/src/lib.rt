@@ -49,6 +49,7 @@ fn check(s: &Space, flags: &[u8], pool: &[u64], base: u64, used: usize) -> Resul
     Ok(())
 }
 
+// 11 and 5 stand in each call, here and below, with what that call tests between them, in document 01's order.
 #[tactic(auto, using(std::proofs::lemmas::Bool::Decides::nat_tests), unfolding(crate::specs::Calls::flags_call))]
 fn flags_in(s: &Space, flags: &[u8], id: u64, vaddr: VirtAddr) -> Result<MMUFlags, Refusal>
     requires { Passes s.now flags.now }

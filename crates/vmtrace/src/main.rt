@@ -56,6 +56,7 @@ fn parse(line: &[u8]) -> Option<Call> {
     }
 }
 
+// Document 01's pool of 8 frames at `POOL_BASE` and a user root; the pools of other programs have other sizes and lines.
 #[derive(Drop)]
 struct Machine {
     pool: [u64; 4096],
