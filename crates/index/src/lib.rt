@@ -9,7 +9,7 @@ use common::defs::VirtAddr;
 pub const ENTRY_COUNT: u64 = 512;
 
 // The nine bits from `shift` up. The four below are the Rust's names for it.
-fn index_above(vaddr: VirtAddr, shift: u32) -> usize
+pub fn index_above(vaddr: VirtAddr, shift: u32) -> usize
     requires { shift < 64 }
     ensures { result ≡ vaddr / 2 ^ shift % 512 }
 {

@@ -1,7 +1,7 @@
 // A line of a trace: a name and its fields, parted by one space. docs/REPLAY.md has them.
 #![tactic(auto)]
 
-ghost use Rattle.std.specs.Prelude.{◌≡◌, ◌≤◌, take};
+ghost use Rattle.std.specs.Prelude.{◌≡◌, ◌≤◌, ◌<◌, take, IfSome};
 ghost use Rattle.trace_line.specs.Unanswered.{number_of_line};
 
 use common::defs::{MMUFlags, PhysAddr, VirtAddr, VmarFlags};
@@ -207,7 +207,9 @@ impl<'a> Words<'a> {
     }
 }
 
-fn digit(b: u8) -> Option<u64> {
+fn digit(b: u8) -> Option<u64>
+    ensures { IfSome result (λ d. d < 16) }
+{
     match b {
         b'0'..=b'9' => Some((b - b'0') as u64),
         b'a'..=b'f' => Some((b - b'a') as u64 + 10),

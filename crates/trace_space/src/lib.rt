@@ -12,7 +12,7 @@ use vmar::{AddressSpace, Answer, Changed};
 use vmar_map::Vmo;
 
 // Page flags in fixed memory, and how many of them are lent with calls.
-#[derive(Drop)]
+#[derive(Clone, Copy)]
 struct Pages {
     flags: [u8; FLAGS],
     many: usize,
@@ -32,9 +32,9 @@ impl Pages {
     }
 }
 
-#[derive(Drop)]
+#[derive(Clone, Copy)]
 pub struct Held {
-    space: AddressSpace,
+    pub space: AddressSpace,
     pages: Pages,
 }
 
@@ -215,9 +215,14 @@ impl Held {
         finish(out, used)
     }
 
-    // The regions with their children and mappings, if the space passes its check with what is lent.
+    // Whether the space passes its check with what is lent.
+    pub fn is_good(&mut self) -> bool {
+        space_check::is_good(&self.space.space, self.pages.lent())
+    }
+
+    // The regions with their children and mappings, if it does.
     pub fn write_tree<W: Write>(&mut self, used: usize, out: &mut W) -> io::Result<()> {
-        if !space_check::is_good(&self.space.space, self.pages.lent()) {
+        if !self.is_good() {
             return write_unanswered(out, Unanswered::Refused(Refusal::BadSpace), used);
         }
         code(out, 0)?;

@@ -2,6 +2,10 @@
 // the lines and the answers. Nothing grows with the input: of a line that is longer than any readable one the rest is passed over.
 #![tactic(auto)]
 
+ghost use Rattle.std.specs.Prelude.{OnOk, ◌++◌, ◌∷◌, [], false, decimal};
+ghost use Rattle.std.specs.Fmt.{digits};
+ghost use Rattle.std.specs.Io.KnownBytes.{Appends};
+
 use common::defs::{MMUFlags, PhysAddr, VirtAddr, VmarFlags};
 use refusal::Refusal;
 use std::io::{self, BufWriter, Write};
@@ -150,10 +154,26 @@ impl Answers for Machine {
             Err(why) => (why.number(), 0),
         };
         self.lines = self.lines.wrapping_add(1);
-        let lines = self.lines;
-        let used = self.used;
-        writeln!(out, "{lines} {number} {value:x} {used}")
+        write_answer(out, self.lines, number, value, self.used as u64)
     }
+}
+
+// The line's number, the refusal number, the value in hexadecimal, the frames in use.
+fn write_answer<W: Write>(
+    out: &mut W,
+    line: u64,
+    number: u64,
+    value: u64,
+    used: u64,
+) -> io::Result<()>
+    ensures { OnOk result (Appends (W.contents out.old) (W.contents out.new) (decimal line ++ (32 ∷ decimal number) ++ (32 ∷ digits 16 false value) ++ (32 ∷ decimal used) ++ (10 ∷ []))) }
+{
+    trace_output::decimal(out, line)?;
+    lines::code(out, number)?;
+    trace_output::byte(out, b' ')?;
+    trace_output::hex(out, value)?;
+    lines::code(out, used)?;
+    trace_output::byte(out, b'\n')
 }
 
 fn main(rt: HostRuntime) -> io::Result<()> {
