@@ -2,6 +2,10 @@
 // docs/REPLAY.md has them.
 #![tactic(auto)]
 
+ghost use Rattle.std.specs.Prelude.{min, take};
+ghost use Rattle.paging.specs.Choice.{Decided};
+ghost use Rattle.space.specs.Passes.{Passes};
+
 use lines::{code, number};
 use refusal::Refusal;
 use space::FLAGS;
@@ -216,8 +220,11 @@ impl Held {
     }
 
     // Whether the space passes its check with what is lent.
-    pub fn is_good(&mut self) -> bool {
-        space_check::is_good(&self.space.space, self.pages.lent())
+    pub fn is_good(&self) -> bool
+        ensures { Decided (Passes self.now.space.space (take (min self.now.pages.many 32768) self.now.pages.flags)) result }
+    {
+        let many = self.pages.many.min(FLAGS);
+        space_check::is_good(&self.space.space, &self.pages.flags[..many])
     }
 
     // The regions with their children and mappings, if it does.
